@@ -1,0 +1,2 @@
+-- A word read bit by bit. Assumes nothing.
+pub mod Bit

@@ -1,0 +1,11 @@
+-- The laws of the definitions in specs/, which the other crates' proofs cite. Assumes nothing.
+pub mod Bools
+pub mod Totals
+pub mod Sums
+pub mod Counts
+pub mod Ranges
+pub mod Assigned
+pub mod Searches
+pub mod Runs
+pub mod Changes
+mod Examples

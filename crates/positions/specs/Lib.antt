@@ -1,0 +1,3 @@
+-- What the contracts of the other crates speak with: sets of positions, sums and counts, searches, runs. Assumes nothing.
+pub mod Positions
+pub mod Runs
