@@ -5,16 +5,15 @@ use Prim.Native.Nat.{ℕ, zero, suc, _+_, _*_, _-_, _/_, _%_, _^_, _≤_, _<_}
 use native.Mathlib.Nat.{pow-succ', lt-of-le-of-lt, lt-of-lt-of-le}
 use native.Mathlib.Omega.{arith}
 use lib.Dec.{eqb, ltb, leb·suc-suc, leb·suc-zero}
-use lib.Bits.{bitAnd, bitOr, or-lt, and-le-l}
+use lib.Bits.{or-lt, and-le-l}
 use lib.Count.{ones}
-use lib.Pow.{pow-mono, pow-pos}
-use borrow.Author.Tests.{lt-ltb, eq-eqb}
+use lib.Pow.{pow-lt, pow-mono, pow-pos}
+use borrow.Author.Tests.{lt-ltb}
 use Rattle.positions.specs.Positions.{Positions, one, countFrom}
-use Rattle.positions.proofs.Bools.{same₂, and-left, and-right}
+use Rattle.positions.proofs.Bools.{same₂}
 use Rattle.positions.proofs.Counts.{countFrom-ext}
 use Rattle.bits.specs.Bit.{bit, mask, put}
-use Rattle.bits.proofs.Bits.{bit-0, bit-suc, bit-zero, bit-and, bit-or, bit-not, bit-ext, bit-none, bit-pow, bit-beyond}
-use Rattle.bits.proofs.Masks.{bit-without}
+use Rattle.bits.proofs.Bits.{bit-0, bit-suc, bit-zero, bit-and, bit-or, bit-not, bit-ext, bit-pow}
 use Rattle.bits.proofs.Ones.{ones-countFrom}
 
 -- ---- `mask`
@@ -101,3 +100,9 @@ module _ (w : ℕ) where
   put-mask n f m v h g =
       mask-of n _ _ (put-lt n (mask n f) m v (mask-lt n f) g)
       (λ j l. put-bit (mask n f) m j v (lt-of-lt-of-le g (pow-mono h)) (omega arith) ∙ ap (cond (bit m j) v) (mask-at n f j l))
+
+  -- one bit of a mask given a value
+  pub put-one : (n : ℕ) (f : Positions) (i : ℕ) (v : Bool) → n ≤ w → i < n
+      → put w (mask n f) (2 ^ i) v ≡ mask n (λ j. cond (eqb j i) v (f j))
+  put-one n f i v h l =
+      put-mask n f (2 ^ i) v h (pow-lt l) ∙ mask-ext n _ _ (λ j k. ap (λ (x : Bool). cond x v (f j)) (bit-pow i j))

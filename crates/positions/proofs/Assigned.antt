@@ -7,7 +7,7 @@ use native.Mathlib.Omega.{arith}
 use borrow.Author.Tests.{leb-true, leb-false}
 use lib.Dec.{leb}
 use Rattle.positions.specs.Positions.{Positions, none, within, assigned, one, countFrom, count, differ, lacking, changedCount}
-use Rattle.positions.proofs.Ranges.{Place, inside, before, behind, place, within-in, within-before, within-behind, within-none}
+use Rattle.positions.proofs.Ranges.{Place, inside, before, behind, place, within-in, within-before, within-behind}
 use Rattle.positions.proofs.Counts.{count-split, count-none, count-same, count-empty, count-le, count-zero, countFrom-balance, countFrom-none}
 
 -- ---- one range, at one position

@@ -1,8 +1,8 @@
 -- Laws for code that walks a call's changed runs by searches, and that takes a call back run by run. Assumes nothing.
-use mathlib.Core.Path.{_≡_, refl, sym, ap, _∙_, fun-ext, subst}
+use mathlib.Core.Path.{_≡_, refl, sym, ap, _∙_, subst}
 use mathlib.Core.Bool.{Bool, true, false, not, cond, _&&_, Bool·not-not, true≢false, false≢true}
 use mathlib.Core.List.{List, [], _∷_, _++_}
-use Prim.Native.Nat.{ℕ, zero, suc, _+_, _-_, _≤_, _<_}
+use Prim.Native.Nat.{ℕ, suc, _-_, _≤_, _<_}
 use native.Mathlib.Omega.{arith}
 use borrow.Author.Tests.{ltb-true, ltb-false}
 use lib.Dec.{ltb}
@@ -10,8 +10,8 @@ use Rattle.positions.specs.Positions.{Positions, assigned, within, diffe
 use Rattle.positions.specs.Runs.{Run, run, runs, changedRuns, placeOr, runEnd, assignedRuns, covered, lengths, Ascending}
 use Rattle.positions.proofs.Ranges.{within-in, within-behind}
 use Rattle.positions.proofs.Counts.{count-all}
-use Rattle.positions.proofs.Runs.{runs-only, runs-next, runs-empty, runs-lengths, runs-ascending, runs-covered, assignedRuns-at}
-use Rattle.positions.proofs.Searches.{IsFirst, Lacks, Searched, hit, miss, first-means, first-at, first-none}
+use Rattle.positions.proofs.Runs.{runs-only, runs-next, runs-lengths, runs-ascending, runs-covered, assignedRuns-at}
+use Rattle.positions.proofs.Searches.{IsFirst, Searched, hit, miss, first-means}
 
 differ-same : (v : Bool) → differ v v ≡ false
 differ-same true = refl

@@ -7,7 +7,7 @@ use native.Mathlib.Nat.{le-refl, mul-one, not-suc-le-zero, one-mul, zero-mul}
 use native.Mathlib.Omega.{arith}
 use borrow.Author.Tests.{not-false}
 use lib.Dec.{eqb}
-use Rattle.positions.specs.Positions.{Positions, none, kept, one, sumOver, countFrom, count, total}
+use Rattle.positions.specs.Positions.{Positions, kept, one, sumOver, countFrom, count, total}
 use Rattle.positions.proofs.Sums as S
 use Rattle.positions.proofs.Totals as T
 

@@ -1,7 +1,7 @@
 -- Where a position lies with respect to a range, and what `within` is there. Assumes nothing.
-use mathlib.Core.Path.{_≡_, refl}
+use mathlib.Core.Path.{_≡_, refl, _∙_}
 use mathlib.Core.Bool.{Bool, true, false, cond, _&&_}
-use Prim.Native.Nat.{ℕ, suc, _≤_, _<_}
+use Prim.Native.Nat.{ℕ, suc, _+_, _≤_, _<_}
 use native.Mathlib.Omega.{arith}
 use borrow.Author.Tests.{ltb-true, ltb-false, leb-true, leb-false, lt-ltb, le-ltb, le-leb, lt-leb, eqb-true, eqb-false}
 use lib.Dec.{leb, ltb, eqb}
@@ -58,3 +58,12 @@ within-more a e i h = go (same a i) (place (suc a) e i)
 
 pub within-none : (a i : ℕ) → within a a i ≡ false
 within-none a i = elim (place a a i) [ inside u v w ↦ absurd (omega arith) | before u w ↦ w | behind u w ↦ w ]
+
+-- a range moved by c
+pub within-shift : (c a e i : ℕ) → within (c + a) (c + e) (c + i) ≡ within a e i
+within-shift c a e i = go (place a e i)
+  where
+    go : Place a e i → within (c + a) (c + e) (c + i) ≡ within a e i
+    go (inside u v w) = within-in (c + a) (c + e) (c + i) (omega arith) (omega arith) ∙ rw w
+    go (before u w) = within-before (c + a) (c + e) (c + i) (omega arith) ∙ rw w
+    go (behind u w) = within-behind (c + a) (c + e) (c + i) (omega arith) ∙ rw w

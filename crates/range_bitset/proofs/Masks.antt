@@ -1,0 +1,101 @@
+-- A mask that spans a range, in a word, in a block's words and in the blocks: how many bits it has, and what giving the
+-- range a value does to each word. Assumes nothing.
+use mathlib.Core.Path.{_≡_, refl, ap, sym, _∙_, subst}
+use mathlib.Core.Bool.{Bool, true, false, _&&_, cond, and-false}
+use Prim.Native.Nat.{ℕ, _+_, _*_, _-_, _%_, _^_, _≤_, _<_}
+use native.Mathlib.Nat.{lt-of-lt-of-le, lt-of-le-of-lt, mod-lt, mod-le}
+use native.Mathlib.Omega.{arith}
+use lib.Count.{ones}
+use lib.Pow.{pow-mono, pow-pos}
+use lib.Dec.{ltb}
+use borrow.Author.Tests.{lt-ltb}
+use Rattle.positions.specs.Positions.{Positions, within, assigned, count}
+use Rattle.positions.proofs.Ranges.{Place, inside, before, behind, place, within-in, within-before, within-behind, within-shift}
+use Rattle.positions.proofs.Counts.{count-split, count-none, count-all, count-from, countFrom-ext}
+use Rattle.positions.proofs.Assigned.{assigned-in, assigned-before, assigned-behind}
+use Rattle.bits.specs.Bit.{bit, mask, put}
+use Rattle.bits.proofs.Bits.{bit-mod, bit-ext}
+use Rattle.bits.proofs.Ones.{ones-countFrom}
+use Rattle.bits.proofs.Words.{mask-of, mask-ext, mask-none, mask-all, put-lt, put-bit}
+use Rattle.range_bitset.specs.Read.{ALL}
+use Rattle.range_bitset.specs.Represents.{wordOf}
+use Rattle.range_bitset.specs.Inner.{Spans}
+use Rattle.range_bitset.proofs.Words.{word-lt, word-bit, word-same}
+
+-- the positions of a..b, counted
+count-within : (a b w : ℕ) → a ≤ b → b ≤ w → count (within a b) 0 w ≡ b - a
+count-within a b w h l =
+    omega (
+      arith,
+      count-split (within a b) 0 a w (omega arith) (omega arith),
+      count-split (within a b) a b w h l,
+      count-none (within a b) 0 a (λ i p q. within-before a b i q),
+      count-all (within a b) a b (λ i p q. within-in a b i p q),
+      count-none (within a b) b w (λ i p q. within-behind a b i p),
+    )
+
+pub spans-ones : (m a b : ℕ) → m < 2 ^ 64 → Spans m a b → a ≤ b → b ≤ 64 → ones m ≡ b - a
+spans-ones m a b fit sp h l =
+    ones-countFrom 64 m fit ∙ countFrom-ext (bit m) (within a b) 0 64 (λ i p q. sp i) ∙ sym (count-from (within a b) 0 64)
+    ∙ count-within a b 64 h l
+
+-- a range with one value, counted
+pub count-value : (s : Positions) (a e : ℕ) (v : Bool) → count (assigned s a e v) a e ≡ cond v (e - a) 0
+count-value s a e v = by v refl
+  where
+    by : (w : Bool) → v ≡ w → count (assigned s a e v) a e ≡ cond w (e - a) 0
+    by true p = count-all (assigned s a e v) a e (λ i l h. assigned-in s a e v i l h ∙ p)
+    by false p = count-none (assigned s a e v) a e (λ i l h. assigned-in s a e v i l h ∙ p)
+
+-- ---- a range within one word
+
+module _ (s : Positions) (k a b : ℕ) (v : Bool) where
+  shifted : (i : ℕ) → assigned s (64 * k + a) (64 * k + b) v (64 * k + i) ≡ cond (within a b i) v (s (64 * k + i))
+  unfolding assigned
+  shifted i = ap (λ (x : Bool). cond x v (s (64 * k + i))) (within-shift (64 * k) a b i)
+
+  pub put-word : (m : ℕ) → m < 2 ^ 64 → Spans m a b → put 64 (wordOf s k) m v ≡ wordOf (assigned s (64 * k + a) (64 * k + b) v) k
+  unfolding wordOf
+  put-word m fit sp =
+      mask-of 64 _ _ (put-lt 64 64 (wordOf s k) m v (word-lt s k) fit)
+      (λ i l.
+      put-bit 64 (wordOf s k) m i v fit l
+      ∙ ap (cond (bit m i) v) (word-bit s k i l)
+      ∙ ap (λ (x : Bool). cond x v (s (64 * k + i))) (sp i)
+      ∙ sym (shifted i))
+
+-- ---- a range of whole words
+
+all-of : (v : Bool) → mask 64 (λ i. v) ≡ cond v ALL 0
+all-of true = mask-all 64
+all-of false = mask-none 64
+
+pub put-words : (s : Positions) (x y : ℕ) (v : Bool) (k : ℕ)
+    → wordOf (assigned s (64 * x) (64 * y) v) k ≡ cond (within x y k) (cond v ALL 0) (wordOf s k)
+unfolding wordOf
+put-words s x y v k = go (place x y k)
+  where
+    go : Place x y k → wordOf (assigned s (64 * x) (64 * y) v) k ≡ cond (within x y k) (cond v ALL 0) (wordOf s k)
+    go (inside u w e) =
+        rw e
+        (mask-ext 64 _ (λ i. v) (λ i l. assigned-in s (64 * x) (64 * y) v (64 * k + i) (omega arith) (omega arith)) ∙ all-of v)
+    go (before u e) = rw e (word-same (assigned s (64 * x) (64 * y) v) s k (λ i l. assigned-before s (64 * x) (64 * y) v (64 * k + i) (omega arith)))
+    go (behind u e) = rw e (word-same (assigned s (64 * x) (64 * y) v) s k (λ i l. assigned-behind s (64 * x) (64 * y) v (64 * k + i) (omega arith)))
+
+-- a mask that spans a range lies below the range's end
+pub spans-lt : (m a b n : ℕ) → m < 2 ^ 64 → Spans m a b → b ≤ n → m < 2 ^ n
+spans-lt m a b n fit sp h =
+    lt-of-lt-of-le (subst (λ (x : ℕ). x < 2 ^ b) (sym same) (mod-lt m (pow-pos b))) (pow-mono h)
+  where
+    cut : (i : ℕ) → within a b i ≡ (ltb i b && within a b i)
+    cut i = go (place a b i)
+      where
+        go : Place a b i → within a b i ≡ (ltb i b && within a b i)
+        go (inside u v w) = rw (w, lt-ltb i b v)
+        go (before u w) = rw w (sym (and-false (ltb i b)))
+        go (behind u w) = rw w (sym (and-false (ltb i b)))
+
+    same : m ≡ m % 2 ^ b
+    same =
+        bit-ext 64 m (m % 2 ^ b) fit (lt-of-le-of-lt (mod-le m (2 ^ b)) fit)
+        (λ i l. sp i ∙ cut i ∙ ap (λ (x : Bool). ltb i b && x) (sym (sp i)) ∙ sym (bit-mod b m i))

@@ -1,0 +1,43 @@
+-- `range_bitset::RangeBitset::assign_blocks` meets its contract. Assumes nothing.
+use mathlib.Core.Path.{_∙_}
+use Rattle.range_bitset.specs.Represents.{closed}
+use Rattle.range_bitset.proofs.Populations.{blocks-count}
+use Rattle.range_bitset.proofs.WholeWords.{blocks-assigned}
+use borrow.Author.Needs.{needs}
+use Rattle.range_bitset.proofs.RangeBitset.assign_blocks.Statement.{statement}
+use Rattle.range_bitset.proofs.RangeBitset.assign_blocks.Tie as tie
+
+blocks-population-requires : tie.Need-blocks-population-requires
+blocks-population-requires c κs = search needs
+
+size-if-requires : tie.Need-size-if-requires
+size-if-requires c κs = search needs
+
+write-tops-requires : tie.Need-write-tops-requires
+write-tops-requires c κs = search needs
+
+abs-diff-requires : tie.Need-abs-diff-requires
+abs-diff-requires c κs = search needs
+
+same-length : tie.Need-same-length
+same-length c = search needs
+
+returns : tie.Need-returns
+returns c =
+    λ a b sp l u.
+    blocks-assigned _ _ a b _ (c .before .before .before .before .before .before .before .before .before .pre .1) sp l u _ _ (c .before .before .before .before .before .before .before .before .before .pre .0) (c .before .before .before .before .before .before .blocks-population .result) (c .before .before .before .before .before .size-if .result) _
+    (λ s t. c .before .before .before .before .before .before .blocks-population .ensures ∙ blocks-count _ _ s closed t _ a b sp l u (c .before .before .before .before .before .before .before .before .before .pre .0 .most))
+    (c .before .before .before .before .before .size-if .ensures)
+    (c .before .before .before .write-tops .ensures)
+    (c .abs-diff .ensures)
+
+pub assign-blocks-spec : {M : Type 1} → statement M
+assign-blocks-spec =
+    tie.close
+    (tie.spec
+    blocks-population-requires
+    size-if-requires
+    write-tops-requires
+    abs-diff-requires
+    same-length
+    returns)

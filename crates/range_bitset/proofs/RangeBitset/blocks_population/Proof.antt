@@ -1,0 +1,58 @@
+-- `blocks_population` meets its contract, by `blocks-total` of Walked. Assumes nothing.
+use borrow.Author.Needs.{needs}
+use mathlib.Core.Path.{_∙_}
+use native.Mathlib.Nat.{lt-of-le-of-lt}
+use native.Mathlib.Omega.{arith}
+use lib.Bits.{bitAnd, and-le-l}
+use lib.ListN.{getD}
+use Rattle.range_bitset.proofs.Walked.{ones-left, blocks-total}
+use Rattle.range_bitset.proofs.RangeBitset.blocks_population.Statement.{statement}
+use Rattle.range_bitset.proofs.RangeBitset.blocks_population.Tie as tie
+
+top-full-slot-requires : tie.Need-top-full-slot-requires
+top-full-slot-requires c κs = search needs
+
+top-nonzero-slot-requires : tie.Need-top-nonzero-slot-requires
+top-nonzero-slot-requires c κs = search needs
+
+mul-full : tie.Need-mul-full
+mul-full c = search needs
+
+shared-slice-read-full : tie.Need-shared-slice-read-full
+shared-slice-read-full c = search needs
+
+mul-mixed : tie.Need-mul-mixed
+mul-mixed c = search needs
+
+shared-slice-read-mixed : tie.Need-shared-slice-read-mixed
+shared-slice-read-mixed c = search needs
+
+mul-kept-populations : tie.Need-mul-kept-populations
+mul-kept-populations c =
+    let a = c .before .before .before .before .before .args in
+    omega (arith, ones-left (getD (a .storage .now) (c .before .before .before .top-full-slot .result) 0) (a .mask) (c .before .before .before .before .before .fits .mask .fits))
+
+kept-populations-requires : tie.Need-kept-populations-requires
+kept-populations-requires c κs =
+    let a = c .before .before .before .before .before .args in
+    (c .before .before .before .before .before .pre .0, lt-of-le-of-lt (and-le-l (bitAnd (a .mask) _) _) (lt-of-le-of-lt (and-le-l (a .mask) _) (c .before .before .before .before .before .pre .1)))
+
+returns : tie.Need-returns
+returns c =
+    let a = c .before .before .before .before .before .before .args in
+    c .kept-populations .ensures
+    ∙ blocks-total (a .words) (a .storage .now) (a .mask) _ _ (c .before .before .before .before .top-full-slot .ensures) (c .before .before .before .top-nonzero-slot .ensures) (c .before .before .before .before .before .before .fits .mask .fits)
+
+pub blocks-population-spec : {M : Type 1} → statement M
+blocks-population-spec =
+    tie.close
+    (tie.spec
+    top-full-slot-requires
+    top-nonzero-slot-requires
+    mul-full
+    shared-slice-read-full
+    mul-mixed
+    shared-slice-read-mixed
+    mul-kept-populations
+    kept-populations-requires
+    returns)

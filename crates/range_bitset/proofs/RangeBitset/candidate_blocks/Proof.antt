@@ -1,0 +1,54 @@
+-- `range_bitset::RangeBitset::candidate_blocks` meets its contract. Assumes nothing.
+use Rattle.range_bitset.proofs.Candidates.{top-ones, top-zeros}
+use Rattle.range_bitset.proofs.Slots.{read-at}
+use Rattle.positions.specs.Positions.{within}
+use Prim.Native.Nat.{ℕ}
+use mathlib.Core.Path.{refl, ap, _∙_}
+use borrow.Author.Needs.{needs}
+use Rattle.range_bitset.proofs.RangeBitset.candidate_blocks.Statement.{statement}
+use Rattle.range_bitset.proofs.RangeBitset.candidate_blocks.Tie as tie
+
+blocks-requires : tie.Need-blocks-requires
+blocks-requires c κs = search needs
+
+span-requires : tie.Need-span-requires
+span-requires c κs = search needs
+
+top-nonzero-slot-requires : tie.Need-top-nonzero-slot-requires
+top-nonzero-slot-requires c κs = search needs
+
+mul-result : tie.Need-mul-result
+mul-result c = search needs
+
+shared-slice-read-result : tie.Need-shared-slice-read-result
+shared-slice-read-result c = search needs
+
+top-full-slot-requires : tie.Need-top-full-slot-requires
+top-full-slot-requires c κs = search needs
+
+mul-result-2 : tie.Need-mul-result-2
+mul-result-2 c = search needs
+
+shared-slice-read-result-2 : tie.Need-shared-slice-read-result-2
+shared-slice-read-result-2 c = search needs
+
+returns : tie.Need-returns
+returns c = top-ones _ _ (c .before .before .before .before .before .before .pre .most) _ (c .before .before .before .span .ok) (λ i. c .before .before .before .span .ensures i ∙ ap (λ (x : ℕ). within 0 x i) (c .before .before .before .before .blocks2 .ensures)) _ _ (c .before .before .if1 .taken) (read-at (c .before .before .before .before .before .before .args .storage .now) (c .before .top-nonzero-slot .ensures) refl)
+
+returns-2 : tie.Need-returns-2
+returns-2 c = top-zeros _ _ (c .before .before .before .before .before .before .pre .most) _ (c .before .before .before .span .ok) (λ i. c .before .before .before .span .ensures i ∙ ap (λ (x : ℕ). within 0 x i) (c .before .before .before .before .blocks2 .ensures)) _ _ (c .before .before .if1 .left) (read-at (c .before .before .before .before .before .before .args .storage .now) (c .before .top-full-slot .ensures) refl)
+
+pub candidate-blocks-spec : {M : Type 1} → statement M
+candidate-blocks-spec =
+    tie.close
+    (tie.spec
+    blocks-requires
+    span-requires
+    top-nonzero-slot-requires
+    mul-result
+    shared-slice-read-result
+    top-full-slot-requires
+    mul-result-2
+    shared-slice-read-result-2
+    returns
+    returns-2)

@@ -1,0 +1,35 @@
+-- `range_bitset::RangeBitset::capacity` meets its contract. Assumes nothing.
+use Rattle.range_bitset.proofs.Heads.{good-bounds}
+use Rattle.range_bitset.specs.Entries.{ofHead}
+use Rattle.range_bitset.specs.Answers.{goodHead, Number}
+use borrow.Author.Tests.{not-true, not-false}
+use native.Mathlib.Nat.{mul-comm}
+use native.Mathlib.Omega.{arith}
+use mathlib.Core.Bool.{true, false}
+use mathlib.Core.Path.{_≡_, sym, ap, _∙_}
+use borrow.Author.Needs.{needs}
+use Rattle.range_bitset.proofs.RangeBitset.capacity.Statement.{statement}
+use Rattle.range_bitset.proofs.RangeBitset.capacity.Tie as tie
+
+good-head-requires : tie.Need-good-head-requires
+good-head-requires c κs = search needs
+
+returns : tie.Need-returns
+unfolding ofHead
+returns c =
+    let e : goodHead (c .before .before .args .self) ≡ false = sym (c .before .good-head .ensures) ∙ not-true _ (c .if1 .taken) in
+    rw e
+
+mul-t4 : tie.Need-mul-t4
+mul-t4 c =
+    let e : goodHead (c .before .before .before .args .self) ≡ true = sym (c .before .before .good-head .ensures) ∙ not-false _ (c .before .if1 .left) in
+    omega (arith, good-bounds _ e .1)
+
+returns-2 : tie.Need-returns-2
+unfolding ofHead
+returns-2 c =
+    let e : goodHead (c .before .before .before .args .self) ≡ true = sym (c .before .before .good-head .ensures) ∙ not-false _ (c .before .if1 .left) in
+    rw e (ap Number (mul-comm _ 64))
+
+pub capacity-spec : {M : Type 1} → statement M
+capacity-spec = tie.close (tie.spec good-head-requires returns mul-t4 returns-2)

@@ -1,0 +1,26 @@
+-- `range_bitset::RangeBitset::first_in_word` meets its contract. Assumes nothing.
+use Rattle.range_bitset.proofs.Searching.{first-in-word}
+use lib.Count.{trailing-le}
+use native.Mathlib.Omega.{arith}
+use borrow.Author.Needs.{needs}
+use Rattle.range_bitset.proofs.RangeBitset.first_in_word.Statement.{statement}
+use Rattle.range_bitset.proofs.RangeBitset.first_in_word.Tie as tie
+
+word-bits-requires : tie.Need-word-bits-requires
+word-bits-requires c κs = search needs
+
+mul-result : tie.Need-mul-result
+mul-result c = search needs
+
+cast-result : tie.Need-cast-result
+cast-result c = omega (arith, trailing-le 64 (c .word-bits .result))
+
+add-result : tie.Need-add-result
+add-result c = omega (arith, trailing-le 64 (c .word-bits .result), c .before .before .pre .0 .most, c .before .before .pre .1)
+
+returns : tie.Need-returns
+returns c = first-in-word _ _ _ _ _ (c .before .before .pre .1) (c .word-bits .ensures)
+
+pub first-in-word-spec : {M : Type 1} → statement M
+first-in-word-spec =
+    tie.close (tie.spec word-bits-requires mul-result cast-result add-result returns)

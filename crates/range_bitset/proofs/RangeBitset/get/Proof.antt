@@ -1,0 +1,45 @@
+-- `range_bitset::RangeBitset::get` meets its contract. Assumes nothing.
+use Rattle.range_bitset.proofs.Queries.{declined, get-fresh, get-begun}
+use Rattle.range_bitset.proofs.Heads.{point-accepted}
+use borrow.Author.Tests.{not-true, not-false}
+use borrow.Author.Needs.{needs}
+use native.Mathlib.Omega.{arith}
+use mathlib.Core.Path.{refl, sym, _∙_}
+use Rattle.range_bitset.proofs.RangeBitset.get.Statement.{statement}
+use Rattle.range_bitset.proofs.RangeBitset.get.Tie as tie
+
+point-refusal-requires : tie.Need-point-refusal-requires
+point-refusal-requires c κs = search needs
+
+returns : tie.Need-returns
+returns c = declined _ _ _ _ _ (c .before .point-refusal .ensures) (c .if1 .taken) refl
+
+returns-2 : tie.Need-returns-2
+returns-2 c = get-fresh _ _ _ (sym (c .before .before .point-refusal .ensures) ∙ c .before .if1 .left) (not-true _ (c .if2 .taken))
+
+cast-word : tie.Need-cast-word
+cast-word c = search needs
+
+word-requires : tie.Need-word-requires
+word-requires c κs =
+    let q = point-accepted _ _ _ (sym (c .before .before .before .point-refusal .ensures) ∙ c .before .before .if1 .left) in
+    (q .0, omega arith)
+
+has-bit-requires : tie.Need-has-bit-requires
+has-bit-requires c κs = search needs
+
+returns-3 : tie.Need-returns-3
+returns-3 c =
+    get-begun _ _ _ _ _ (sym (c .before .before .before .before .before .point-refusal .ensures) ∙ c .before .before .before .before .if1 .left) (not-false _ (c .before .before .before .if2 .left)) (c .before .word .ensures) (c .has-bit .ensures)
+
+pub get-spec : {M : Type 1} → statement M
+get-spec =
+    tie.close
+    (tie.spec
+    point-refusal-requires
+    returns
+    returns-2
+    cast-word
+    word-requires
+    has-bit-requires
+    returns-3)

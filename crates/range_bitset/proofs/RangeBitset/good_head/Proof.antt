@@ -1,0 +1,37 @@
+-- `range_bitset::RangeBitset::good_head` meets its contract. Assumes nothing.
+use Rattle.range_bitset.specs.Answers.{goodHead}
+use Rattle.range_bitset.specs.Layout.{allowed}
+use borrow.Author.Tests.{not-true, not-false}
+use mathlib.Core.Bool.{true, false}
+use mathlib.Core.Path.{_≡_, sym, _∙_}
+use borrow.Author.Needs.{needs}
+use Rattle.range_bitset.proofs.RangeBitset.good_head.Statement.{statement}
+use Rattle.range_bitset.proofs.RangeBitset.good_head.Tie as tie
+
+cast-words : tie.Need-cast-words
+cast-words c = search needs
+
+allowed-requires : tie.Need-allowed-requires
+allowed-requires c κs = search needs
+
+returns : tie.Need-returns
+unfolding goodHead
+returns c =
+    let e : allowed (c .before .before .before .args .head .words) ≡ false = sym (c .before .allowed .ensures) ∙ not-true _ (c .if1 .taken) in
+    rw e
+
+cast-result : tie.Need-cast-result
+cast-result c = search needs
+
+mul-result : tie.Need-mul-result
+mul-result c = search needs
+
+returns-2 : tie.Need-returns-2
+unfolding goodHead
+returns-2 c =
+    let e : allowed (c .before .before .before .before .args .head .words) ≡ true = sym (c .before .before .allowed .ensures) ∙ not-false _ (c .before .if1 .left) in
+    rw e
+
+pub good-head-spec : {M : Type 1} → statement M
+good-head-spec =
+    tie.close (tie.spec cast-words allowed-requires returns cast-result mul-result returns-2)

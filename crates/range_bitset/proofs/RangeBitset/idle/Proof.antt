@@ -1,0 +1,13 @@
+use borrow.Author.Needs.{needs}
+use Rattle.range_bitset.proofs.RangeBitset.idle.Statement.{statement}
+use Rattle.range_bitset.proofs.RangeBitset.idle.Tie as tie
+
+returns : tie.Need-returns
+returns c =
+    rw (c .if1 .taken)
+
+returns-2 : tie.Need-returns-2
+returns-2 c = search needs
+
+pub idle-spec : {M : Type 1} → statement M
+idle-spec = tie.close (tie.spec returns returns-2)

@@ -1,0 +1,41 @@
+-- `range_bitset::RangeBitset::range_refusal` meets its contract. Assumes nothing.
+use Rattle.range_bitset.specs.Answers.{storageRefusal, rangeRefusal}
+use borrow.Author.Tests.{ne-eqb, le-leb, lt-leb}
+use mathlib.Core.Path.{_≡_, sym, _∙_}
+use borrow.Author.Needs.{needs}
+use Rattle.range_bitset.proofs.RangeBitset.range_refusal.Statement.{statement}
+use Rattle.range_bitset.proofs.RangeBitset.range_refusal.Tie as tie
+
+refusal-requires : tie.Need-refusal-requires
+refusal-requires c κs = search needs
+
+returns : tie.Need-returns
+unfolding rangeRefusal
+returns c =
+    let a = c .before .before .args in
+    let e : storageRefusal (a .head) (a .len) ≡ c .before .refusal .result = sym (c .before .refusal .ensures) in
+    rw (e, ne-eqb _ _ (c .if1 .taken))
+
+cast-words : tie.Need-cast-words
+cast-words c = search needs
+
+mul-if2 : tie.Need-mul-if2
+mul-if2 c = search needs
+
+returns-2 : tie.Need-returns-2
+unfolding rangeRefusal
+returns-2 c =
+    let a = c .before .before .before .before .args in
+    let e : storageRefusal (a .head) (a .len) ≡ 0 = sym (c .before .before .before .refusal .ensures) ∙ c .before .before .if1 .left in
+    rw (e, le-leb _ _ (c .if2 .taken))
+
+returns-3 : tie.Need-returns-3
+unfolding rangeRefusal
+returns-3 c =
+    let a = c .before .before .before .before .args in
+    let e : storageRefusal (a .head) (a .len) ≡ 0 = sym (c .before .before .before .refusal .ensures) ∙ c .before .before .if1 .left in
+    rw (e, lt-leb _ _ (c .if2 .left))
+
+pub range-refusal-spec : {M : Type 1} → statement M
+range-refusal-spec =
+    tie.close (tie.spec refusal-requires returns cast-words mul-if2 returns-2 returns-3)

@@ -1,0 +1,65 @@
+-- `range_bitset::RangeBitset::refusal` meets its contract. Assumes nothing.
+use Rattle.range_bitset.proofs.Heads.{good-bounds}
+use Rattle.range_bitset.specs.Answers.{goodHead, storageRefusal}
+use Rattle.range_bitset.specs.Layout.{needed}
+use borrow.Author.Tests.{lt-ltb, le-ltb, not-true, not-false}
+use native.Mathlib.Omega.{arith}
+use mathlib.Core.Bool.{true, false}
+use mathlib.Core.Path.{_≡_, sym, _∙_}
+use borrow.Author.Needs.{needs}
+use Rattle.range_bitset.proofs.RangeBitset.refusal.Statement.{statement}
+use Rattle.range_bitset.proofs.RangeBitset.refusal.Tie as tie
+
+good-head-requires : tie.Need-good-head-requires
+good-head-requires c κs = search needs
+
+returns : tie.Need-returns
+unfolding storageRefusal
+returns c =
+    let e : goodHead (c .before .before .args .head) ≡ false = sym (c .before .good-head .ensures) ∙ not-true _ (c .if1 .taken) in
+    rw e
+
+cast-words : tie.Need-cast-words
+cast-words c = search needs
+
+blocks-requires : tie.Need-blocks-requires
+blocks-requires c κs =
+    let e : goodHead (c .before .before .before .args .head) ≡ true = sym (c .before .before .good-head .ensures) ∙ not-false _ (c .before .if1 .left) in
+    good-bounds _ e .1
+
+mul-if2 : tie.Need-mul-if2
+mul-if2 c = search needs
+
+add-if2 : tie.Need-add-if2
+add-if2 c = search needs
+
+add-if2-2 : tie.Need-add-if2-2
+add-if2-2 c = search needs
+
+returns-2 : tie.Need-returns-2
+unfolding storageRefusal
+returns-2 c =
+    let e : goodHead (c .before .before .before .before .before .args .head) ≡ true = sym (c .before .before .before .before .good-head .ensures) ∙ not-false _ (c .before .before .before .if1 .left) in
+    let a = c .before .before .before .before .before .args in
+    rw (e, lt-ltb (a .len) (needed (a .head .words)) (omega arith))
+
+returns-3 : tie.Need-returns-3
+unfolding storageRefusal
+returns-3 c =
+    let e : goodHead (c .before .before .before .before .before .args .head) ≡ true = sym (c .before .before .before .before .good-head .ensures) ∙ not-false _ (c .before .before .before .if1 .left) in
+    let a = c .before .before .before .before .before .args in
+    rw (e, le-ltb (a .len) (needed (a .head .words)) (omega arith))
+
+pub refusal-spec : {M : Type 1} → statement M
+refusal-spec =
+    tie.close
+    (tie.spec
+    good-head-requires
+    returns
+    cast-words
+    blocks-requires
+    mul-if2
+    add-if2
+    add-if2-2
+    returns-2
+    returns-3)

@@ -1,0 +1,71 @@
+-- What the entries answer, as 01's numbers: one reply for each case of each answer enum; and the refusals, in 01's order.
+-- Assumes nothing.
+use mathlib.Core.Bool.{Bool, true, false, _&&_, cond}
+use Prim.Native.Nat.{ℕ, _*_, _/_, _%_}
+use lib.Dec.{eqb, leb, ltb}
+use Rattle.positions.specs.Positions.{one, Found, At, None}
+use Rattle.range_bitset.specs.Layout.{allowed, needed}
+use Rattle.range_bitset.specs.Represents.{capacityOf}
+use Rattle.range_bitset.specs.declared.RangeBitset.{RangeBitset}
+use Rattle.range_bitset.specs.declared.Counted.{Counted}
+use Rattle.range_bitset.specs.declared.Counted.the-variants as counted
+use Rattle.range_bitset.specs.declared.Tested.{Tested}
+use Rattle.range_bitset.specs.declared.Tested.the-variants as tested
+use Rattle.range_bitset.specs.declared.Found.{Found as Place}
+use Rattle.range_bitset.specs.declared.Found.the-variants as place
+
+pub data Reply : Type 0 where
+  Number : ℕ → Reply
+  Nothing : Reply
+  Refusal : ℕ → Reply
+
+-- a count; a truth, as 1 or 0; a position or none
+abbrev pub ofCounted : Counted → Reply
+ofCounted (counted.Count n) = Number n
+ofCounted (counted.Refused k) = Refusal k
+
+abbrev pub ofTested : Tested → Reply
+ofTested (tested.Is b) = Number (one b)
+ofTested (tested.Refused k) = Refusal k
+
+abbrev pub ofPlace : Place → Reply
+ofPlace (place.At i) = Number i
+ofPlace place.Nothing = Nothing
+ofPlace (place.Refused k) = Refusal k
+
+abbrev pub ofFound : Found → Reply
+ofFound (At i) = Number i
+ofFound None = Nothing
+
+-- the number of the refusal in a reply; 0: accepted
+abbrev pub refused : Reply → ℕ
+refused (Number n) = 0
+refused Nothing = 0
+refused (Refusal k) = k
+
+-- ---- the refusals of 01's table, 0 where a call is accepted
+
+-- 1: the capacity is not 64 times an allowed word count
+unfoldable pub allowedCapacity : ℕ → Bool
+allowedCapacity c = eqb (c % 64) 0 && allowed (c / 64)
+
+-- 2: the head's word count is not allowed, or its population is above the capacity
+unfoldable pub goodHead : RangeBitset → Bool
+goodHead h = allowed (h .words) && leb (h .len) (capacityOf h)
+
+unfoldable pub headRefusal : RangeBitset → ℕ
+headRefusal h = cond (goodHead h) 0 2
+
+-- 2, then 3: a storage of n numbers is shorter than needed
+unfoldable pub storageRefusal : RangeBitset → ℕ → ℕ
+storageRefusal h n = cond (goodHead h) (cond (ltb n (needed (h .words))) 3 0) 2
+
+-- 2, 3, then 4: an end above the capacity, or a point at or above it
+abbrev pub first-of : ℕ → ℕ → ℕ
+first-of k next = cond (eqb k 0) next k
+
+unfoldable pub rangeRefusal : RangeBitset → ℕ → ℕ → ℕ
+rangeRefusal h n e = first-of (storageRefusal h n) (cond (leb e (capacityOf h)) 0 4)
+
+unfoldable pub pointRefusal : RangeBitset → ℕ → ℕ → ℕ
+pointRefusal h n i = first-of (storageRefusal h n) (cond (ltb i (capacityOf h)) 0 4)

@@ -1,0 +1,84 @@
+-- The set's promises: one definition for each entry. `st` is the storage at entry, `st′` at exit. Assumes nothing.
+use mathlib.Core.Path.{_≡_}
+use mathlib.Core.Bool.{Bool, true, false, _&&_, _||_, cond}
+use mathlib.Core.List.{List}
+use Prim.Native.Nat.{ℕ, suc, _*_, _/_}
+use lib.Dec.{ltb}
+use lib.ListN.{drop, length}
+use Rattle.positions.specs.Positions.{Positions, none, assigned, count, changedCount, first, one}
+use Rattle.range_bitset.specs.Layout.{needed}
+use Rattle.range_bitset.specs.Represents.{Represents, capacityOf}
+use Rattle.range_bitset.specs.Answers.{Reply, Number, Refusal, ofCounted, ofTested, ofPlace, ofFound, refused, allowedCapacity, goodHead, headRefusal, storageRefusal, rangeRefusal, pointRefusal}
+use Rattle.range_bitset.specs.declared.RangeBitset.{RangeBitset}
+use Rattle.range_bitset.specs.declared.Made.{Made}
+use Rattle.range_bitset.specs.declared.Made.the-variants as made
+use Rattle.range_bitset.specs.declared.Counted.{Counted}
+use Rattle.range_bitset.specs.declared.Tested.{Tested}
+use Rattle.range_bitset.specs.declared.Found.{Found as Place}
+use Rattle.range_bitset.specs.declared.Assigned.{Assigned}
+use Rattle.range_bitset.specs.declared.Updated.{Updated}
+
+-- ---- the shape of a query's promise and of a change's
+
+-- `k` is the refusal that 01's table asks for, 0 for none; `f s` the reply on the set s
+pub record Answers (k : ℕ) (h : RangeBitset) (st : List ℕ) (f : Positions → Reply) (r : Reply) : Type 0 where
+  -- on any memory: refused exactly so
+  pub refuses : refused r ≡ k
+  -- for every set that the memory represents: the one answer
+  pub answers : k ≡ 0 → (s : Positions) → Represents h st s → r ≡ f s
+
+-- `g s` is the set afterwards, `begins` whether the call is a first setting
+pub record Changes (k : ℕ) (h : RangeBitset) (st : List ℕ) (f : Positions → Reply) (g : Positions → Positions) (begins : Bool)
+    (r : Reply) (h′ : RangeBitset) (st′ : List ℕ) : Type 0 where
+  -- on any memory: refused exactly so, and then nothing is changed; numbers past those needed never are
+  pub refuses : refused r ≡ k
+  pub unchanged : (k ≡ 0 → ⊥) → (h′ ≡ h) × (st′ ≡ st)
+  pub kept : drop (needed (h .words)) st′ ≡ drop (needed (h .words)) st
+  -- for every set that the memory represents: the one answer, the new head, and every number that is not stale
+  pub answers : k ≡ 0 → (s : Positions) → Represents h st s → r ≡ f s
+  pub head : k ≡ 0 → (s : Positions) → Represents h st s
+      → h′ ≡ record { words = h .words; len = count (g s) 0 (capacityOf h); allocated = h .allocated || begins }
+  pub represents : k ≡ 0 → (s : Positions) → Represents h st s → Represents h′ st′ (g s)
+
+-- ---- the entries
+
+-- refused 1, or the head of a fresh set
+unfoldable pub newOf : ℕ → Made
+newOf capacity =
+    cond (allowedCapacity capacity) (made.Head (record { words = capacity / 64; len = 0; allocated = false })) (made.Refused 1)
+
+unfoldable pub ofHead : RangeBitset → ℕ → Reply
+ofHead h n = cond (goodHead h) (Number n) (Refusal 2)
+
+abbrev pub CapacityEnsures : RangeBitset → Counted → Type 0
+CapacityEnsures h r = ofCounted r ≡ ofHead h (capacityOf h)
+
+abbrev pub LenEnsures : RangeBitset → Counted → Type 0
+LenEnsures h r = ofCounted r ≡ ofHead h (h .len)
+
+abbrev pub GetEnsures : RangeBitset → List ℕ → ℕ → Tested → Type 0
+GetEnsures h st i r = Answers (pointRefusal h (length st) i) h st (λ s. Number (one (s i))) (ofTested r)
+
+abbrev pub CountEnsures : RangeBitset → List ℕ → ℕ → ℕ → Counted → Type 0
+CountEnsures h st a e r = Answers (rangeRefusal h (length st) e) h st (λ s. Number (count s a e)) (ofCounted r)
+
+-- `next_one` and `next_zero`: the first position of value v
+abbrev pub NextEnsures : Bool → RangeBitset → List ℕ → ℕ → ℕ → Place → Type 0
+NextEnsures v h st a e r = Answers (rangeRefusal h (length st) e) h st (λ s. ofFound (first s v a e)) (ofPlace r)
+
+abbrev pub AssignEnsures : RangeBitset → List ℕ → ℕ → ℕ → Bool → Assigned → List ℕ → Type 0
+AssignEnsures h st a e v r st′ =
+    Changes (rangeRefusal h (length st) e) h st (λ s. Number (changedCount s a e v)) (λ s. assigned s a e v) (v && ltb a e)
+    (ofCounted (r .answer)) (r .head) st′
+
+-- one position: a range of length 1
+abbrev pub SetEnsures : RangeBitset → List ℕ → ℕ → Bool → Updated → List ℕ → Type 0
+SetEnsures h st i v r st′ =
+    Changes (pointRefusal h (length st) i) h st (λ s. Number (changedCount s i (suc i) v)) (λ s. assigned s i (suc i) v) v
+    (ofTested (r .answer)) (r .head) st′
+
+-- every position: the flag is kept
+abbrev pub ClearEnsures : RangeBitset → List ℕ → Assigned → List ℕ → Type 0
+ClearEnsures h st r st′ =
+    Changes (storageRefusal h (length st)) h st (λ s. Number (count s 0 (capacityOf h))) (λ s. none) false
+    (ofCounted (r .answer)) (r .head) st′
