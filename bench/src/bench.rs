@@ -79,10 +79,7 @@ impl Set for Port {
     fn new(capacity: usize) -> Self {
         let made = unsafe { klado_set_new(capacity) };
         assert!(made.refused == 0);
-        Port {
-            head: made.head,
-            storage: vec![0; needed(capacity / 64)],
-        }
+        Port { head: made.head, storage: vec![0; needed(capacity / 64)] }
     }
     fn assign(&mut self, start: usize, end: usize, value: bool) -> u32 {
         let (head, storage, len) = (self.head, self.storage.as_mut_ptr(), self.storage.len());
@@ -160,13 +157,7 @@ struct Side<S> {
 
 impl<S: Set> Side<S> {
     fn new(capacity: usize, fill: u64, calls: u64, kind: Kind) -> Self {
-        let mut side = Side {
-            set: S::new(capacity),
-            random: 1,
-            filled: 0,
-            sum: 0,
-            least: f64::INFINITY,
-        };
+        let mut side = Side { set: S::new(capacity), random: 1, filled: 0, sum: 0, least: f64::INFINITY };
         if kind != Kind::Assign {
             side.assign(capacity as u64, fill, calls / 8);
             side.filled = side.sum;
@@ -292,10 +283,7 @@ fn row(name: &str, capacity: usize, fill: u64, kind: Kind, calls: u64, rounds: u
     }
     let ratio = port.least / rust.least;
     let beside = if has_third { format!("{:10.2}", third.least) } else { format!("{:>10}", "-") };
-    println!(
-        "{capacity:>8}  {name:<26}{:9.2}{:9.2}{ratio:8.3}{beside}{:12.2}",
-        rust.least, port.least, alone.least
-    );
+    println!("{capacity:>8}  {name:<26}{:9.2}{:9.2}{ratio:8.3}{beside}{:12.2}", rust.least, port.least, alone.least);
     Ok(ratio)
 }
 

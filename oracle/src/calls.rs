@@ -57,14 +57,7 @@ impl Maker {
         let reaches = [1, 63, 200, 5000, 100_000, capacity];
         let reach = reaches[random.below(reaches.len())].min(capacity);
         let ones = 1 + random.below(7);
-        Maker {
-            random,
-            capacity,
-            reach,
-            ones,
-            last: 0,
-            waiting: Vec::new(),
-        }
+        Maker { random, capacity, reach, ones, last: 0, waiting: Vec::new() }
     }
 
     /// `border`, or the position on either side of it.

@@ -38,12 +38,7 @@ impl Port {
         let past = storage[needed..].to_vec();
         let made = unsafe { klado_set_new(capacity) };
         assert!(made.refused == 0, "new {capacity} refused {}", made.refused);
-        Port {
-            head: made.head,
-            storage,
-            needed,
-            past,
-        }
+        Port { head: made.head, storage, needed, past }
     }
 
     fn changed(&mut self, answer: SetAnswer) -> Given {
@@ -55,7 +50,9 @@ impl Port {
         let (head, storage, len) = (self.head, self.storage.as_mut_ptr(), self.storage.len());
         unsafe {
             match call {
-                Call::Assign(start, end, value) => self.changed(klado_set_assign(head, storage, len, start, end, value)),
+                Call::Assign(start, end, value) => {
+                    self.changed(klado_set_assign(head, storage, len, start, end, value))
+                }
                 Call::Set(index, value) => self.changed(klado_set_set(head, storage, len, index, value)),
                 Call::Clear => self.changed(klado_set_clear(head, storage, len)),
                 Call::Get(index) => number(klado_set_get(head, storage, len, index)),

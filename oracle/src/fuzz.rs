@@ -64,10 +64,7 @@ impl Room {
             assert!(base as isize != -1, "mmap failed");
             let end = base.byte_add(PAGE + bytes);
             assert!(mprotect(base, PAGE, 0) == 0 && mprotect(end, PAGE, 0) == 0, "mprotect failed");
-            Room {
-                first: base.byte_add(PAGE).cast(),
-                numbers: bytes / 8,
-            }
+            Room { first: base.byte_add(PAGE).cast(), numbers: bytes / 8 }
         }
     }
 
@@ -93,13 +90,7 @@ impl Round {
         for number in &mut room.all()[low..high] {
             *number = filling(random);
         }
-        Round {
-            from,
-            len,
-            low,
-            high,
-            before: room.all()[low..high].to_vec(),
-        }
+        Round { from, len, low, high, before: room.all()[low..high].to_vec() }
     }
 
     /// Holds the room to what it held, but for the slice's first `free` numbers, and remembers those.
@@ -110,7 +101,10 @@ impl Round {
             wrong(case, "a number below the slice was written");
         }
         if all[self.from + free..self.high] != self.before[end..] {
-            wrong(case, if free == 0 { "a refused call or a query wrote" } else { "a number past the needed ones was written" });
+            wrong(
+                case,
+                if free == 0 { "a refused call or a query wrote" } else { "a number past the needed ones was written" },
+            );
         }
         self.before[start..end].copy_from_slice(&all[self.from..self.from + free]);
     }
@@ -124,7 +118,8 @@ impl Round {
             // the masks and populations lie at the end, so look there often
             let back = if random.once_in(2) { self.len } else { self.len.min(12) };
             let at = self.len - 1 - random.below(back);
-            let number = if random.once_in(3) { filling(random) } else { room.all()[self.from + at] ^ 1 << random.below(64) };
+            let number =
+                if random.once_in(3) { filling(random) } else { room.all()[self.from + at] ^ 1 << random.below(64) };
             room.all()[self.from + at] = number;
             self.before[self.from - self.low + at] = number;
         }
@@ -159,11 +154,7 @@ fn any_head(random: &mut Random, words: usize) -> Head {
         3 => capacity,
         _ => random.below(capacity as usize + 1) as u32,
     };
-    Head {
-        words,
-        len,
-        allocated: !random.once_in(8) as u8,
-    }
+    Head { words, len, allocated: !random.once_in(8) as u8 }
 }
 
 fn position(random: &mut Random, capacity: usize) -> usize {
@@ -197,11 +188,7 @@ fn new_is_exact(case: Case, capacity: usize) {
     let made = unsafe { klado_set_new(capacity) };
     let allowed = capacity.is_power_of_two() && (64..=262144).contains(&capacity);
     let words = if allowed { (capacity / 64) as u32 } else { 0 };
-    let head = Head {
-        words,
-        len: 0,
-        allocated: 0,
-    };
+    let head = Head { words, len: 0, allocated: 0 };
     if made.refused != !allowed as u32 || made.value != 0 || made.head != head {
         wrong(case, &format!("new {capacity} gave {made:?}"));
     }
@@ -213,7 +200,9 @@ fn change(case: Case, room: &mut Room, round: &mut Round) -> Head {
     let (head, len) = (case.head, case.len);
     let (answer, wanted) = unsafe {
         match case.kind {
-            0 => (klado_set_assign(head, storage, len, case.start, case.end, case.value), refusal(&case, Some(case.end))),
+            0 => {
+                (klado_set_assign(head, storage, len, case.start, case.end, case.value), refusal(&case, Some(case.end)))
+            }
             1 => (
                 klado_set_set(head, storage, len, case.start, case.value),
                 refusal(&case, Some(case.start.saturating_add(1))),

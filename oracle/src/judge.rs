@@ -9,9 +9,7 @@ pub struct Judge {
 
 impl Judge {
     pub fn new(capacity: usize) -> Self {
-        Judge {
-            set: RangeBitset::new(capacity),
-        }
+        Judge { set: RangeBitset::new(capacity) }
     }
 
     /// The Rust's own answer; none where a search finds nothing. Its `clear` answers nothing, so here the answer is how many

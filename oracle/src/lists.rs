@@ -94,11 +94,7 @@ fn main() {
         std::process::exit(2);
     };
     let mut seeds = random::Random::new(seed);
-    let mut lists = Lists {
-        calls: String::new(),
-        answers: String::new(),
-        number: 0,
-    };
+    let mut lists = Lists { calls: String::new(), answers: String::new(), number: 0 };
     for capacity in CAPACITIES {
         let mut judge = lists.begin(capacity);
         let mut maker = Maker::new(capacity, seeds.next());
