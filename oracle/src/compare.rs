@@ -205,7 +205,8 @@ impl List {
     }
 }
 
-fn run_list(seed: u64, number: u64) -> u64 {
+/// Runs one list and its sweep. Answers how many calls that were, and how many of them the list's own.
+fn run_list(seed: u64, number: u64) -> (u64, u64) {
     let (mut list, mut maker) = List::new(seed, number);
     if maker.random.once_in(8) {
         let step = 1 + maker.random.below(8);
@@ -214,12 +215,13 @@ fn run_list(seed: u64, number: u64) -> u64 {
             list.change(call);
         }
     }
-    for _ in 0..50 << maker.random.below(9) {
+    for _ in 0..100 << maker.random.below(10) {
         let call = maker.call();
         list.change(call);
     }
+    let own = list.made;
     list.sweep(&mut maker.random);
-    list.made
+    (list.made, own)
 }
 
 fn main() {
@@ -234,13 +236,15 @@ fn main() {
     let time = Duration::from_secs(seconds.unwrap_or(u64::MAX));
     let begun = Instant::now();
     let first = number(2).unwrap_or(0);
-    let (mut made, mut list) = (0, first);
+    let (mut made, mut own, mut list) = (0, 0, first);
     while made < most && begun.elapsed() < time {
-        made += run_list(seed, list);
+        let (calls, of_list) = run_list(seed, list);
+        made += calls;
+        own += of_list;
         list += 1;
     }
     println!(
-        "compare: the same, {made} calls in {} lists, seed {seed}, {:.1} s",
+        "compare: the same, {made} calls ({own} in {} lists, the rest in sweeps), seed {seed}, {:.1} s",
         list - first,
         begun.elapsed().as_secs_f64()
     );
