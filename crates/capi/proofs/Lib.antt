@@ -1,0 +1,2 @@
+-- The laws of the exports for C. Assumes nothing.
+pub mod Telling
