@@ -3,12 +3,6 @@ use Rattle.capi.proofs.Telling.{tell-assign}
 use borrow.Author.Needs.{needs}
 use Rattle.capi.proofs.klado_set_assign.Statement.{statement}
 use Rattle.capi.proofs.klado_set_assign.Tie as tie
-use Rattle.capi.proofs.klado_set_assign.Reads as reads
-use Rattle.capi.proofs.klado_set_assign.Lts as lts
-use Rattle.capi.proofs.of_counted.Reads as of-counted-reads
-use Rattle.capi.proofs.set_of.Reads as set-of-reads
-use Rattle.capi.proofs.with_head.Reads as with-head-reads
-use Rattle.range_bitset.proofs.RangeBitset.assign.Reads as assign-reads
 
 set-of-requires : tie.Need-set-of-requires
 set-of-requires c κs = search needs

@@ -3,12 +3,6 @@ use Rattle.capi.proofs.Telling.{tell-clear}
 use borrow.Author.Needs.{needs}
 use Rattle.capi.proofs.klado_set_clear.Statement.{statement}
 use Rattle.capi.proofs.klado_set_clear.Tie as tie
-use Rattle.capi.proofs.klado_set_clear.Reads as reads
-use Rattle.capi.proofs.klado_set_clear.Lts as lts
-use Rattle.capi.proofs.of_counted.Reads as of-counted-reads
-use Rattle.capi.proofs.set_of.Reads as set-of-reads
-use Rattle.capi.proofs.with_head.Reads as with-head-reads
-use Rattle.range_bitset.proofs.RangeBitset.clear.Reads as clear-reads
 
 set-of-requires : tie.Need-set-of-requires
 set-of-requires c κs = search needs

@@ -7,11 +7,6 @@ use Rattle.capi.proofs.Telling.{telling}
 use borrow.Author.Needs.{needs}
 use Rattle.capi.proofs.klado_set_count.Statement.{statement}
 use Rattle.capi.proofs.klado_set_count.Tie as tie
-use Rattle.capi.proofs.klado_set_count.Reads as reads
-use Rattle.capi.proofs.klado_set_count.Lts as lts
-use Rattle.capi.proofs.of_counted.Reads as of-counted-reads
-use Rattle.capi.proofs.set_of.Reads as set-of-reads
-use Rattle.range_bitset.proofs.RangeBitset.count.Reads as count-reads
 
 set-of-requires : tie.Need-set-of-requires
 set-of-requires c κs = search needs

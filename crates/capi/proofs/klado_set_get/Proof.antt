@@ -7,11 +7,6 @@ use Rattle.capi.proofs.Telling.{telling}
 use borrow.Author.Needs.{needs}
 use Rattle.capi.proofs.klado_set_get.Statement.{statement}
 use Rattle.capi.proofs.klado_set_get.Tie as tie
-use Rattle.capi.proofs.klado_set_get.Reads as reads
-use Rattle.capi.proofs.klado_set_get.Lts as lts
-use Rattle.capi.proofs.of_tested.Reads as of-tested-reads
-use Rattle.capi.proofs.set_of.Reads as set-of-reads
-use Rattle.range_bitset.proofs.RangeBitset.get.Reads as get-reads
 
 set-of-requires : tie.Need-set-of-requires
 set-of-requires c κs = search needs

@@ -7,11 +7,6 @@ use Rattle.capi.proofs.Telling.{telling}
 use borrow.Author.Needs.{needs}
 use Rattle.capi.proofs.klado_set_len.Statement.{statement}
 use Rattle.capi.proofs.klado_set_len.Tie as tie
-use Rattle.capi.proofs.klado_set_len.Reads as reads
-use Rattle.capi.proofs.klado_set_len.Lts as lts
-use Rattle.capi.proofs.of_counted.Reads as of-counted-reads
-use Rattle.capi.proofs.set_of.Reads as set-of-reads
-use Rattle.range_bitset.proofs.RangeBitset.len.Reads as len-reads
 
 set-of-requires : tie.Need-set-of-requires
 set-of-requires c κs = search needs

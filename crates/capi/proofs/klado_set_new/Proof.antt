@@ -4,10 +4,6 @@ use mathlib.Core.Path.{ap, _∙_}
 use borrow.Author.Needs.{needs}
 use Rattle.capi.proofs.klado_set_new.Statement.{statement}
 use Rattle.capi.proofs.klado_set_new.Tie as tie
-use Rattle.capi.proofs.klado_set_new.Reads as reads
-use Rattle.capi.proofs.klado_set_new.Lts as lts
-use Rattle.capi.proofs.of_made.Reads as of-made-reads
-use Rattle.range_bitset.proofs.RangeBitset.new.Reads as new-reads
 
 new-requires : tie.Need-new-requires
 new-requires c κs = search needs

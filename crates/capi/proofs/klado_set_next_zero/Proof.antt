@@ -8,11 +8,6 @@ use Rattle.capi.proofs.Telling.{telling}
 use borrow.Author.Needs.{needs}
 use Rattle.capi.proofs.klado_set_next_zero.Statement.{statement}
 use Rattle.capi.proofs.klado_set_next_zero.Tie as tie
-use Rattle.capi.proofs.klado_set_next_zero.Reads as reads
-use Rattle.capi.proofs.klado_set_next_zero.Lts as lts
-use Rattle.capi.proofs.of_found.Reads as of-found-reads
-use Rattle.capi.proofs.set_of.Reads as set-of-reads
-use Rattle.range_bitset.proofs.RangeBitset.next_zero.Reads as next-zero-reads
 
 set-of-requires : tie.Need-set-of-requires
 set-of-requires c κs = search needs

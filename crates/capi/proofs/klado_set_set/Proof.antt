@@ -3,12 +3,6 @@ use Rattle.capi.proofs.Telling.{tell-set}
 use borrow.Author.Needs.{needs}
 use Rattle.capi.proofs.klado_set_set.Statement.{statement}
 use Rattle.capi.proofs.klado_set_set.Tie as tie
-use Rattle.capi.proofs.klado_set_set.Reads as reads
-use Rattle.capi.proofs.klado_set_set.Lts as lts
-use Rattle.capi.proofs.of_tested.Reads as of-tested-reads
-use Rattle.capi.proofs.set_of.Reads as set-of-reads
-use Rattle.capi.proofs.with_head.Reads as with-head-reads
-use Rattle.range_bitset.proofs.RangeBitset.set.Reads as set-reads
 
 set-of-requires : tie.Need-set-of-requires
 set-of-requires c κs = search needs

@@ -4,8 +4,6 @@ use mathlib.Core.Path.{ap, sym}
 use borrow.Author.Needs.{needs}
 use Rattle.capi.proofs.of_counted.Statement.{statement}
 use Rattle.capi.proofs.of_counted.Tie as tie
-use Rattle.capi.proofs.of_counted.Reads as reads
-use Rattle.capi.proofs.of_counted.Lts as lts
 
 enum-known-answer : tie.Need-enum-known-answer
 enum-known-answer c = search needs

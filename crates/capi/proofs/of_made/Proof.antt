@@ -1,15 +1,11 @@
 -- `capi::of_made` meets its contract: one line of ofMade for each case. Assumes nothing.
 use Rattle.capi.specs.declared.KladoSetAnswer.{KladoSetAnswer}
 use Rattle.capi.specs.declared.KladoSet.{KladoSet}
-use Rattle.range_bitset.specs.declared.RangeBitset.{RangeBitset}
-use Rattle.capi.specs.Told.{headOf, ofMade}
+use Rattle.capi.specs.Told.{ofMade}
 use mathlib.Core.Path.{ap, sym, _∙_}
 use borrow.Author.Needs.{needs}
 use Rattle.capi.proofs.of_made.Statement.{statement}
 use Rattle.capi.proofs.of_made.Tie as tie
-use Rattle.capi.proofs.of_made.Reads as reads
-use Rattle.capi.proofs.of_made.Lts as lts
-use Rattle.capi.proofs.head_of.Reads as head-of-reads
 
 enum-known-answer : tie.Need-enum-known-answer
 enum-known-answer c = search needs

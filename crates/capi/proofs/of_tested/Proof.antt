@@ -5,8 +5,6 @@ use Rattle.range_bitset.specs.declared.Tested.the-variants as tested
 use borrow.Author.Needs.{needs}
 use Rattle.capi.proofs.of_tested.Statement.{statement}
 use Rattle.capi.proofs.of_tested.Tie as tie
-use Rattle.capi.proofs.of_tested.Reads as reads
-use Rattle.capi.proofs.of_tested.Lts as lts
 
 enum-known-answer : tie.Need-enum-known-answer
 enum-known-answer c = search needs

@@ -1,14 +1,10 @@
 -- `capi::with_head` meets its contract. Assumes nothing.
 use Rattle.capi.specs.declared.KladoSetAnswer.{KladoSetAnswer}
 use Rattle.capi.specs.declared.KladoSet.{KladoSet}
-use Rattle.capi.specs.Told.{withHead}
 use mathlib.Core.Path.{ap}
 use borrow.Author.Needs.{needs}
 use Rattle.capi.proofs.with_head.Statement.{statement}
 use Rattle.capi.proofs.with_head.Tie as tie
-use Rattle.capi.proofs.with_head.Reads as reads
-use Rattle.capi.proofs.with_head.Lts as lts
-use Rattle.capi.proofs.head_of.Reads as head-of-reads
 
 head-of-requires : tie.Need-head-of-requires
 head-of-requires c κs = search needs
