@@ -1,7 +1,7 @@
 -- C's numbers for the set's heads and answers, and the promise of each export: its answer is those numbers for an answer that
 -- the entry of range_bitset promises. Assumes nothing.
 use mathlib.Core.Path.{_≡_}
-use mathlib.Core.Bool.{Bool, true, false}
+use mathlib.Core.Bool.{Bool, false}
 use mathlib.Core.List.{List}
 use Prim.Native.Nat.{ℕ}
 use Rattle.positions.specs.Positions.{one}
