@@ -3,16 +3,18 @@
 -- Assumes nothing.
 use mathlib.Core.Path.{_≡_, refl, ap, sym, _∙_}
 use mathlib.Core.Logic.{_≢_}
-use mathlib.Core.Bool.{Bool, true, false}
+use mathlib.Core.Bool.{Bool, true, false, cond}
 use mathlib.Core.List.{List}
 use Prim.Native.Nat.{ℕ, _≤_}
 use native.Mathlib.Omega.{arith}
 use lib.ListN.{length}
 use Rattle.positions.specs.Positions.{Positions, one}
-use Rattle.range_bitset.specs.Answers.{Reply, refused, storageRefusal, rangeRefusal, pointRefusal}
+use Rattle.range_bitset.specs.Answers.{Reply, refused, goodHead, headRefusal, storageRefusal, rangeRefusal, pointRefusal}
 use Rattle.range_bitset.specs.Answers as reply
-use Rattle.range_bitset.specs.Entries.{Changes}
+use Rattle.range_bitset.specs.Entries.{Changes, ofHead}
 use Rattle.range_bitset.specs.declared.RangeBitset.{RangeBitset}
+use Rattle.range_bitset.specs.declared.Made.{Made}
+use Rattle.range_bitset.specs.declared.Made.the-variants as made
 use Rattle.range_bitset.specs.declared.Counted.{Counted}
 use Rattle.range_bitset.specs.declared.Counted.the-variants as counted
 use Rattle.range_bitset.specs.declared.Tested.{Tested}
@@ -23,7 +25,7 @@ use Rattle.capi.specs.declared.KladoSet.{KladoSet}
 use Rattle.capi.specs.declared.KladoSetAnswer.{KladoSetAnswer}
 use Rattle.capi.specs.declared.KladoAnswer.{KladoAnswer}
 use Rattle.capi.specs.declared.KladoFound.{KladoFound}
-use Rattle.capi.specs.Told.{setOf, headOf, withHead, ofCounted, ofTested, ofFound, GetTold, SetTold, AssignTold, CountTold, NextTold, ClearTold}
+use Rattle.capi.specs.Told.{setOf, headOf, withHead, ofMade, ofCounted, ofTested, ofFound, CapacityTold, LenTold, GetTold, SetTold, AssignTold, CountTold, NextTold, ClearTold}
 
 -- ---- the numbers of one answer
 
@@ -68,7 +70,34 @@ found-none (place.At i) z = absurd (omega arith)
 found-none place.Nothing z = refl
 found-none (place.Refused k) z = refl
 
+-- ---- a new set
+
+pub made-value : (a : Made) → ofMade a .value ≡ 0
+made-value (made.Head h) = refl
+made-value (made.Refused k) = refl
+
+pub made-bare : (a : Made) → ofMade a .refused ≢ 0 → ofMade a .head ≡ record { words = 0; len = 0; allocated = false }
+made-bare (made.Head h) z = absurd (z refl)
+made-bare (made.Refused k) z = refl
+
 -- ---- the calls that ask: the refusal
+
+-- of a head alone
+bare-head : (g : Bool) (n : ℕ) → refused (cond g (reply.Number n) (reply.Refusal 2)) ≡ cond g 0 2
+bare-head true n = refl
+bare-head false n = refl
+
+head-refuses : (h : RangeBitset) (n : ℕ) (a : Counted) (c : KladoAnswer) → reply.ofCounted a ≡ ofHead h n → c ≡ ofCounted a
+    → c .refused ≡ headRefusal h
+unfolding ofHead headRefusal
+head-refuses h n a c p t =
+    ap (λ (x : KladoAnswer). x .refused) t ∙ counted-refused a ∙ ap refused p ∙ bare-head (goodHead h) n
+
+pub capacity-refuses : (h : KladoSet) → (c : KladoAnswer) → CapacityTold h c → c .refused ≡ headRefusal (setOf h)
+capacity-refuses h c t = head-refuses (setOf h) _ (t .answer) c (t .promised) (t .told)
+
+pub len-refuses : (h : KladoSet) → (c : KladoAnswer) → LenTold h c → c .refused ≡ headRefusal (setOf h)
+len-refuses h c t = head-refuses (setOf h) _ (t .answer) c (t .promised) (t .told)
 
 pub get-refuses : (h : KladoSet) → (st : List ℕ) → (i : ℕ) → (c : KladoAnswer) → GetTold h st i c
     → c .refused ≡ pointRefusal (setOf h) (length st) i
