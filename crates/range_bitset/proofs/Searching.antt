@@ -1,5 +1,5 @@
--- The searches: what the lowest bit of a candidate mask is, and that `next_from` stops at the first position of the value
--- sought: one law for each of its returns. Assumes nothing.
+-- The searches: what the lowest bit of a candidate mask is, and that `bits_from` and `next_after` stop at the first position
+-- of the value sought: one law for each return. Assumes nothing.
 use mathlib.Core.Path.{_≡_, refl, ap, sym, _∙_}
 use mathlib.Core.Logic.{_≢_}
 use mathlib.Core.Bool.{Bool, true, false, not, _&&_, cond, true≢false, false≢true}
@@ -23,7 +23,7 @@ use Rattle.bits.proofs.Ones.{tz-below, tz-bit, tz-lt, tz-set}
 use Rattle.range_bitset.specs.Layout.{blocks, wordsOf, at}
 use Rattle.range_bitset.specs.Read.{ALL, wordRead}
 use Rattle.range_bitset.specs.Represents.{wordOf, closed, Stored}
-use Rattle.range_bitset.specs.Inner.{Spans, Marks, wordStart, blockStart, CandidateWords, CandidateBlocks, NextInWord, NextFrom}
+use Rattle.range_bitset.specs.Inner.{Spans, Marks, wordStart, blockStart, CandidateWords, CandidateBlocks, NextInWord, NextFrom, Passes}
 use Rattle.range_bitset.specs.declared.Found.the-variants as place
 use Rattle.range_bitset.proofs.Words.{word-lt, word-bit, word-is}
 
@@ -150,12 +150,11 @@ module _ (W : ℕ) (st : List ℕ) (k : ℕ) (v : Bool) (m : ℕ) (l : k < W) (e
             };
       }
 
--- ---- the returns of `next_from`
+-- ---- the returns of `bits_from` and `next_after`
 
 module _ (W : ℕ) (st : List ℕ) (a : ℕ) (v : Bool) (l : a < 64 * W) where
-  -- no set that the storage holds has the value in a..e
   abbrev pub Passed : ℕ → Type 0
-  Passed e = (s : Positions) → Stored W st s → Lacks s v a e
+  Passed e = Passes W st a v e
 
   -- in the first word
   module _ (m y : ℕ) (f : m < 2 ^ 64) (e : m ≡ cond v (wordRead W st (a / 64)) (ALL - wordRead W st (a / 64))) (g : Spans y (a % 64) 64) where

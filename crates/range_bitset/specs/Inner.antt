@@ -5,7 +5,7 @@ use mathlib.Core.Bool.{Bool, true, false, not, _&&_, cond}
 use mathlib.Core.List.{List, [], _∷_}
 use Prim.Native.Nat.{ℕ, suc, _+_, _*_, _-_, _/_, _%_, _^_, _≤_, _<_, min}
 use lib.Dec.{eqb}
-use lib.Count.{ones}
+use lib.Count.{ones, trailingZeros}
 use lib.ListN.{length, drop, set}
 use Rattle.positions.specs.Positions.{Positions, within, assigned, changedCount, count, sumOver}
 use Rattle.positions.proofs.Searches.{Lacks, Stops}
@@ -204,6 +204,19 @@ pub record NextInWord (W k : ℕ) (v : Bool) (st : List ℕ) (r : ℕ) : Type 0 
 pub record NextFrom (W a : ℕ) (v : Bool) (st : List ℕ) (r : ℕ) : Type 0 where
   pub high : r ≤ 64 * W
   pub stops : (s : Positions) → Stored W st s → Stops s v a (64 * W) r
+
+-- no set that the storage holds has a position of value v in a..e
+abbrev pub Passes : ℕ → List ℕ → ℕ → Bool → ℕ → Type 0
+Passes W st a v e = (s : Positions) → Stored W st s → Lacks s v a e
+
+-- the positions of value v from a to the end of its word, as bits
+pub record BitsFrom (W a : ℕ) (v : Bool) (st : List ℕ) (r : ℕ) : Type 0 where
+  pub some : (r ≡ 0 → ⊥) → NextFrom W a v st (a / 64 * 64 + trailingZeros 64 r)
+  pub none : r ≡ 0 → Passes W st a v (64 * suc (a / 64))
+
+-- where that word has none: the first position after it, or the capacity
+abbrev pub NextAfter : ℕ → ℕ → Bool → List ℕ → ℕ → Type 0
+NextAfter W a v st r = Passes W st a v (64 * suc (a / 64)) → NextFrom W a v st r
 
 -- ---- what the functions of the audit give back
 

@@ -27,7 +27,7 @@ ghost use Rattle.range_bitset.specs.Represents.{valid, blockCount};
 ghost use Rattle.range_bitset.specs.Sound.{SoundBlock, SoundStorage};
 ghost use Rattle.range_bitset.specs.Answers.{ofPlace, ofFound, allowedCapacity, goodHead, headRefusal, storageRefusal, rangeRefusal, pointRefusal};
 ghost use Rattle.range_bitset.specs.Entries.{newOf, CapacityEnsures, LenEnsures, GetEnsures, CountEnsures, NextEnsures, AssignEnsures, SetEnsures, ClearEnsures, AuditEnsures};
-ghost use Rattle.range_bitset.specs.Inner.{Room, Spans, apart, moved, stores, openWith, writeWord, countMoved, writeMasks, writeTops, Opens, Closes, Assigns, Begins, mixedCount, wordsCount, blocksCount, Counts, CandidateWords, CandidateBlocks, NextInWord, NextFrom, Tells, SoundMasks, SoundWords, SoundAt, SoundBlocks};
+ghost use Rattle.range_bitset.specs.Inner.{Room, Spans, apart, moved, stores, openWith, writeWord, countMoved, writeMasks, writeTops, Opens, Closes, Assigns, Begins, mixedCount, wordsCount, blocksCount, Counts, CandidateWords, CandidateBlocks, NextInWord, NextAfter, BitsFrom, Tells, SoundMasks, SoundWords, SoundAt, SoundBlocks};
 ghost use Rattle.range_bitset.specs.declared.State.the-variants.{Mixed};
 
 const ALL: u64 = u64::MAX;
@@ -895,16 +895,21 @@ impl RangeBitset {
         word * 64 + u64::trailing_zeros(bits) as usize
     }
 
-    // First position at or after `from` equal to `value`, or the capacity.
-    fn next_from(storage: &[u64], words: usize, from: usize, value: bool) -> usize
+    // Positions of the word of `from`, at or after it, equal to `value`. With `next_after` it is the Rust's `next_from`, in two
+    // parts so that a search that ends in its first word is in line and calls nothing.
+    fn bits_from(storage: &[u64], words: usize, from: usize, value: bool) -> u64
         requires { ⌜ Room words (now storage) × (from < 64 * words) ⌝ }
-        ensures { λ r. ⌜ NextFrom words from value (now (storage .entry)) r ⌝ }
+        ensures { λ r. ⌜ BitsFrom words from value (now (storage .entry)) r ⌝ }
+    {
+        Self::word_bits(storage, words, from / 64, value) & rest(from % 64)
+    }
+
+    // First position at or after `from` equal to `value`, or the capacity, where the word of `from` has none.
+    fn next_after(storage: &[u64], words: usize, from: usize, value: bool) -> usize
+        requires { ⌜ Room words (now storage) × (from < 64 * words) ⌝ }
+        ensures { λ r. ⌜ NextAfter words from value (now (storage .entry)) r ⌝ }
     {
         let word = from / 64;
-        let bits = Self::word_bits(storage, words, word, value) & rest(from % 64);
-        if bits != 0 {
-            return word * 64 + u64::trailing_zeros(bits) as usize;
-        }
         let block = word / 64;
         let later_words = Self::candidate_words(storage, words, block, value) & above(word % 64);
         if later_words != 0 {
@@ -951,7 +956,11 @@ impl RangeBitset {
         if len == 0 {
             return Found::Nothing;
         }
-        Self::below(Self::next_from(storage, words as usize, from, true), end)
+        let bits = Self::bits_from(storage, words as usize, from, true);
+        if bits != 0 {
+            return Self::below(from / 64 * 64 + u64::trailing_zeros(bits) as usize, end);
+        }
+        Self::below(Self::next_after(storage, words as usize, from, true), end)
     }
 
     // First clear position in `from..end`.
@@ -970,7 +979,11 @@ impl RangeBitset {
         if !allocated {
             return Found::At(from);
         }
-        Self::below(Self::next_from(storage, words as usize, from, false), end)
+        let bits = Self::bits_from(storage, words as usize, from, false);
+        if bits != 0 {
+            return Self::below(from / 64 * 64 + u64::trailing_zeros(bits) as usize, end);
+        }
+        Self::below(Self::next_after(storage, words as usize, from, false), end)
     }
 
     // Clear every position; answers how many there were.

@@ -2,6 +2,7 @@
 use Rattle.range_bitset.proofs.Queries.{declined, next-empty, next-none, next-one}
 use Rattle.range_bitset.proofs.Heads.{range-accepted}
 use mathlib.Core.Path.{refl, sym, _∙_}
+use lib.Count.{trailing-le}
 use native.Mathlib.Omega.{arith}
 use borrow.Author.Needs.{needs}
 use Rattle.range_bitset.proofs.RangeBitset.next_one.Statement.{statement}
@@ -19,19 +20,47 @@ returns-2 c = next-empty _ _ _ _ (sym (c .before .before .range-refusal .ensures
 returns-3 : tie.Need-returns-3
 returns-3 c = next-none _ _ _ _ (sym (c .before .before .before .range-refusal .ensures) ∙ c .before .before .if1 .left) (c .if3 .taken)
 
-cast-next-from : tie.Need-cast-next-from
-cast-next-from c = search needs
+cast-bits-from : tie.Need-cast-bits-from
+cast-bits-from c = search needs
 
-next-from-requires : tie.Need-next-from-requires
-next-from-requires c κs =
+bits-from-requires : tie.Need-bits-from-requires
+bits-from-requires c κs =
     let q = range-accepted _ _ _ (sym (c .before .before .before .range-refusal .ensures) ∙ c .before .before .if1 .left) in
     (q .0, omega (arith, q .1, c .before .if2 .left))
+
+mul-below : tie.Need-mul-below
+mul-below c = search needs
+
+cast-below : tie.Need-cast-below
+cast-below c = omega (arith, trailing-le 64 (c .before .bits-from .result))
+
+add-below : tie.Need-add-below
+add-below c =
+    let a = c .before .before .before .before .before .before .before .args in
+    let q = range-accepted (a .self) (a .storage .now) (a .end) (sym (c .before .before .before .before .before .range-refusal .ensures) ∙ c .before .before .before .before .if1 .left) in
+    omega (arith, trailing-le 64 (c .before .bits-from .result), q .0 .most, q .1, c .before .before .before .if2 .left)
 
 below-requires : tie.Need-below-requires
 below-requires c κs = search needs
 
 returns-4 : tie.Need-returns-4
-returns-4 c = next-one _ _ _ _ (sym (c .before .before .before .before .before .range-refusal .ensures) ∙ c .before .before .before .before .if1 .left) _ (c .below .result) (c .before .before .if3 .left) (c .before .next-from .ensures) (c .below .ensures)
+returns-4 c =
+    next-one _ _ _ _ (sym (c .before .before .before .before .before .before .range-refusal .ensures) ∙ c .before .before .before .before .before .if1 .left) _ (c .below .result) (c .before .before .before .if3 .left) (c .before .before .bits-from .ensures .some (c .before .if4 .taken)) (c .below .ensures)
+
+cast-next-after : tie.Need-cast-next-after
+cast-next-after c = search needs
+
+next-after-requires : tie.Need-next-after-requires
+next-after-requires c κs =
+    let q = range-accepted _ _ _ (sym (c .before .before .before .before .before .range-refusal .ensures) ∙ c .before .before .before .before .if1 .left) in
+    (q .0, omega (arith, q .1, c .before .before .before .if2 .left))
+
+below-requires-2 : tie.Need-below-requires-2
+below-requires-2 c κs = search needs
+
+returns-5 : tie.Need-returns-5
+returns-5 c =
+    next-one _ _ _ _ (sym (c .before .before .before .before .before .before .before .range-refusal .ensures) ∙ c .before .before .before .before .before .before .if1 .left) _ (c .below2 .result) (c .before .before .before .before .if3 .left) (c .before .next-after .ensures (c .before .before .before .bits-from .ensures .none (c .before .before .if4 .left))) (c .below2 .ensures)
 
 pub next-one-spec : {M : Type 1} → statement M
 next-one-spec =
@@ -41,7 +70,14 @@ next-one-spec =
     returns
     returns-2
     returns-3
-    cast-next-from
-    next-from-requires
+    cast-bits-from
+    bits-from-requires
+    mul-below
+    cast-below
+    add-below
     below-requires
-    returns-4)
+    returns-4
+    cast-next-after
+    next-after-requires
+    below-requires-2
+    returns-5)

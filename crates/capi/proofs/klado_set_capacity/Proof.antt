@@ -1,0 +1,26 @@
+-- `capi::klado_set_capacity` answers what `RangeBitset::capacity` does. Assumes nothing.
+use Rattle.capi.specs.declared.KladoAnswer.{KladoAnswer}
+use Rattle.range_bitset.specs.declared.Counted.{Counted}
+use Rattle.capi.specs.Told.{ofCounted}
+use Rattle.range_bitset.specs.Entries.{CapacityEnsures}
+use Rattle.capi.proofs.Telling.{telling}
+use borrow.Author.Needs.{needs}
+use Rattle.capi.proofs.klado_set_capacity.Statement.{statement}
+use Rattle.capi.proofs.klado_set_capacity.Tie as tie
+
+set-of-requires : tie.Need-set-of-requires
+set-of-requires c κs = search needs
+
+capacity-requires : tie.Need-capacity-requires
+capacity-requires c κs = search needs
+
+of-counted-requires : tie.Need-of-counted-requires
+of-counted-requires c κs = search needs
+
+returns : tie.Need-returns
+returns c =
+    telling Counted KladoAnswer CapacityEnsures ofCounted _ _ (c .before .before .set-of .ensures) (c .before .capacity .result) (c .before .capacity .ensures) _ (c .of-counted .ensures)
+
+pub klado-set-capacity-spec : {M : Type 1} → statement M
+klado-set-capacity-spec =
+    tie.close (tie.spec set-of-requires capacity-requires of-counted-requires returns)

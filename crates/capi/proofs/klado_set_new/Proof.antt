@@ -1,0 +1,18 @@
+-- `capi::klado_set_new` answers what `RangeBitset::new` does. Assumes nothing.
+use Rattle.capi.specs.Told.{ofMade}
+use mathlib.Core.Path.{ap, _∙_}
+use borrow.Author.Needs.{needs}
+use Rattle.capi.proofs.klado_set_new.Statement.{statement}
+use Rattle.capi.proofs.klado_set_new.Tie as tie
+
+new-requires : tie.Need-new-requires
+new-requires c κs = search needs
+
+of-made-requires : tie.Need-of-made-requires
+of-made-requires c κs = search needs
+
+returns : tie.Need-returns
+returns c = c .of-made .ensures ∙ ap ofMade (c .before .new .ensures)
+
+pub klado-set-new-spec : {M : Type 1} → statement M
+klado-set-new-spec = tie.close (tie.spec new-requires of-made-requires returns)

@@ -1,0 +1,25 @@
+-- `capi::of_counted` meets its contract: one line of ofCounted for each case. Assumes nothing.
+use Rattle.capi.specs.Told.{ofCounted}
+use mathlib.Core.Path.{ap, sym}
+use borrow.Author.Needs.{needs}
+use Rattle.capi.proofs.of_counted.Statement.{statement}
+use Rattle.capi.proofs.of_counted.Tie as tie
+
+enum-known-answer : tie.Need-enum-known-answer
+enum-known-answer c = search needs
+
+enum-known-answer-2 : tie.Need-enum-known-answer-2
+enum-known-answer-2 c = search needs
+
+cast-t5 : tie.Need-cast-t5
+cast-t5 c = search needs
+
+returns : tie.Need-returns
+returns c = sym (ap ofCounted (c .before .answer .given .1))
+
+returns-2 : tie.Need-returns-2
+returns-2 c = sym (ap ofCounted (c .before .answer2 .given .1))
+
+pub of-counted-spec : {M : Type 1} → statement M
+of-counted-spec =
+    tie.close (tie.spec enum-known-answer enum-known-answer-2 cast-t5 returns returns-2)

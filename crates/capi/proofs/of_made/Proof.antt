@@ -1,0 +1,33 @@
+-- `capi::of_made` meets its contract: one line of ofMade for each case. Assumes nothing.
+use Rattle.capi.specs.declared.KladoSetAnswer.{KladoSetAnswer}
+use Rattle.capi.specs.declared.KladoSet.{KladoSet}
+use Rattle.capi.specs.Told.{ofMade}
+use mathlib.Core.Path.{ap, sym, _∙_}
+use borrow.Author.Needs.{needs}
+use Rattle.capi.proofs.of_made.Statement.{statement}
+use Rattle.capi.proofs.of_made.Tie as tie
+
+enum-known-answer : tie.Need-enum-known-answer
+enum-known-answer c = search needs
+
+head-of-requires : tie.Need-head-of-requires
+head-of-requires c κs = search needs
+
+enum-known-answer-2 : tie.Need-enum-known-answer-2
+enum-known-answer-2 c = search needs
+
+cast-t6 : tie.Need-cast-t6
+cast-t6 c = search needs
+
+returns : tie.Need-returns
+returns c =
+    let w : KladoSet → KladoSetAnswer = λ x. record { refused = 0; value = 0; head = x } in
+    ap w (c .head-of .ensures) ∙ sym (ap ofMade (c .before .before .answer .given .1))
+
+returns-2 : tie.Need-returns-2
+returns-2 c = sym (ap ofMade (c .before .answer2 .given .1))
+
+pub of-made-spec : {M : Type 1} → statement M
+of-made-spec =
+    tie.close
+    (tie.spec enum-known-answer head-of-requires enum-known-answer-2 cast-t6 returns returns-2)

@@ -1,0 +1,19 @@
+-- `capi::with_head` meets its contract. Assumes nothing.
+use Rattle.capi.specs.declared.KladoSetAnswer.{KladoSetAnswer}
+use Rattle.capi.specs.declared.KladoSet.{KladoSet}
+use mathlib.Core.Path.{ap}
+use borrow.Author.Needs.{needs}
+use Rattle.capi.proofs.with_head.Statement.{statement}
+use Rattle.capi.proofs.with_head.Tie as tie
+
+head-of-requires : tie.Need-head-of-requires
+head-of-requires c κs = search needs
+
+returns : tie.Need-returns
+returns c =
+    let a = c .before .args .told in
+    let w : KladoSet → KladoSetAnswer = λ x. record { refused = a .refused; value = a .value; head = x } in
+    ap w (c .head-of .ensures)
+
+pub with-head-spec : {M : Type 1} → statement M
+with-head-spec = tie.close (tie.spec head-of-requires returns)

@@ -1,0 +1,2 @@
+-- The definitions of the exports for C: Told, to believe. Assumes nothing.
+pub mod Told
