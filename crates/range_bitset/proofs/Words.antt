@@ -70,10 +70,6 @@ in-word s i =
     let e : 64 * (i / 64) + i % 64 ≡ i = omega arith in
     word-bit s (i / 64) (i % 64) (omega arith) ∙ ap s e
 
-pub ones-zero : ones 0 ≡ 0
-unfolding ones
-ones-zero = refl
-
 -- ---- a block of the set
 
 -- word k lies in its block
