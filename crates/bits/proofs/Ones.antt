@@ -1,22 +1,21 @@
 -- The counts of a word's bits: `count_ones` is the countFrom of its bits, `trailing_zeros` is the place of its lowest bit, and `n & (n - 1)` clears that bit. Assumes nothing.
 use mathlib.Core.Path.{_≡_, refl, sym, ap, ap₂, _∙_, subst}
 use mathlib.Core.Logic.{_≢_}
-use mathlib.Core.Bool.{Bool, true, false, not, _&&_, _||_, true≢false, false≢true, and-true, and-self}
-use Prim.Native.Nat.{ℕ, zero, suc, _+_, _-_, _*_, _/_, _%_, _^_, _≤_, _<_, zero-le}
-use native.Mathlib.Nat.{le-refl, le-of-suc-le-suc, not-suc-le-zero, zero-lt-suc, mod-lt, div-add-mod', pow-suc, pos-of-ne-zero, lt-of-le-of-lt, lt-irrefl}
+use mathlib.Core.Bool.{Bool, true, false, not, _&&_, and-true, and-self}
+use Prim.Native.Nat.{ℕ, zero, suc, _+_, _-_, _*_, _/_, _%_, _^_, _<_}
+use native.Mathlib.Nat.{le-refl, le-of-suc-le-suc, not-suc-le-zero, zero-lt-suc, mod-lt, div-add-mod', pow-suc, pos-of-ne-zero, lt-irrefl}
 use native.Mathlib.Decide.{decLt}
 use native.Mathlib.Numerals.{one-add}
 use native.Mathlib.Omega.{arith}
 use borrow.Author.Tests.{eq-eqb}
 use lib.Dec.{eqb, eqb·suc-suc, eqb·suc-zero}
 use lib.Arith.{lt-one, le-zero, digits-div, digits-mod}
-use lib.Bits.{bitAnd, bitOr, and-le-l, and-le-r, or-lt}
+use lib.Bits.{bitAnd, and-le-r}
 use lib.Count.{ones, ones-step, ones-le, trailingZeros, trailing-le, under}
-use lib.Pow.{ones-sub-lt}
 use Rattle.bits.specs.Bit.{bit}
 use Rattle.positions.specs.Positions.{kept, countFrom}
-use Rattle.bits.proofs.Bits.{bit-0, bit-suc, bit-and, bit-or, bit-none, bit-not}
-use Rattle.positions.proofs.Counts.{countFrom-zero, countFrom-first, countFrom-shift, countFrom-ext, countFrom-union, countFrom-not, countFrom-remove}
+use Rattle.bits.proofs.Bits.{bit-0, bit-suc, bit-and, bit-none}
+use Rattle.positions.proofs.Counts.{countFrom-zero, countFrom-first, countFrom-shift, countFrom-ext}
 
 two-pos : zero < 2
 two-pos = zero-lt-suc 1
@@ -37,21 +36,6 @@ ones-countFrom (suc w) n h =
     ∙ countFrom-ext (bit (n / 2)) (λ i. bit n (1 + i)) 0 w (λ i l k. sym (bit-suc n i) ∙ ap (bit n) (sym (one-add i)))
     ∙ sym (countFrom-shift (bit n) 1 0 w))
     ∙ sym (countFrom-first (bit n) 0 w)
-
--- the bits of either word, and of both
-pub ones-union : (w a b : ℕ) → a < 2 ^ w → b < 2 ^ w → ones (bitOr a b) + ones (bitAnd a b) ≡ ones a + ones b
-ones-union w a b ha hb =
-    ap₂ _+_
-    (ones-countFrom w (bitOr a b) (or-lt w a b ha hb) ∙ countFrom-ext (bit (bitOr a b)) (λ i. bit a i || bit b i) 0 w (λ i l k. bit-or a b i))
-    (ones-countFrom w (bitAnd a b) (lt-of-le-of-lt (and-le-l a b) ha) ∙ countFrom-ext (bit (bitAnd a b)) (λ i. bit a i && bit b i) 0 w (λ i l k. bit-and a b i))
-    ∙ countFrom-union (bit a) (bit b) 0 w
-    ∙ ap₂ _+_ (sym (ones-countFrom w a ha)) (sym (ones-countFrom w b hb))
-
-pub ones-not : (w a : ℕ) → a < 2 ^ w → ones a + ones ((2 ^ w - 1) - a) ≡ w
-ones-not w a h =
-    ap₂ _+_ (ones-countFrom w a h)
-    (ones-countFrom w ((2 ^ w - 1) - a) (ones-sub-lt w a) ∙ countFrom-ext (bit ((2 ^ w - 1) - a)) (λ i. not (bit a i)) 0 w (λ i l k. bit-not w a i h (omega arith)))
-    ∙ countFrom-not (bit a) 0 w
 
 -- ---- `trailing_zeros`
 
@@ -79,21 +63,6 @@ tz-bit (suc k) n h = go (tz-bit k (n / 2)) (n % 2) refl h
     go rest (suc d) e h = bit-0 n ∙ eq-eqb (n % 2) 1 (omega (arith, mod-lt n two-pos))
 
 module _ (k n : ℕ) where
-  -- no set bit is below it
-  pub tz-least : (j : ℕ) → bit n j ≡ true → trailingZeros k n ≤ j
-  tz-least j e = go (decLt j (trailingZeros k n))
-    where
-      go : Dec (j < trailingZeros k n) → trailingZeros k n ≤ j
-      go (yes h) = absurd (false≢true (sym (tz-below k n j h) ∙ e))
-      go (no h) = omega arith
-
-  pub tz-unique : (j : ℕ) → j < k → bit n j ≡ true → ((i : ℕ) → i < j → bit n i ≡ false) → trailingZeros k n ≡ j
-  tz-unique j l e f = go (decLt (trailingZeros k n) j)
-    where
-      go : Dec (trailingZeros k n < j) → trailingZeros k n ≡ j
-      go (yes h) = absurd (true≢false (sym (tz-bit k n (omega (arith, tz-least j e))) ∙ f (trailingZeros k n) h))
-      go (no h) = omega (arith, tz-least j e)
-
   module _ (ne : n ≢ 0) (h : n < 2 ^ k) where
     pub tz-lt : trailingZeros k n < k
     tz-lt = go (decLt (trailingZeros k n) k)
@@ -142,11 +111,3 @@ module _ (k n : ℕ) (ne : n ≢ 0) (h : n < 2 ^ k) where
 
   pub drop-lowest-lt : bitAnd n (n - 1) < n
   drop-lowest-lt = omega (arith, and-le-r n (n - 1), pos-of-ne-zero ne)
-
-  pub ones-drop-lowest : ones n ≡ 1 + ones (bitAnd n (n - 1))
-  ones-drop-lowest =
-      ones-countFrom k n h
-      ∙ countFrom-remove (bit n) (trailingZeros k n) 0 k zero-le (omega (arith, tz-lt k n ne h)) (tz-set k n ne h)
-      ∙ ap (λ (x : ℕ). 1 + x)
-      (countFrom-ext (λ i. bit n i && not (eqb i (trailingZeros k n))) (bit (bitAnd n (n - 1))) 0 k (λ i l q. sym (bit-drop-lowest i))
-      ∙ sym (ones-countFrom k (bitAnd n (n - 1)) (lt-of-le-of-lt (and-le-l n (n - 1)) h)))

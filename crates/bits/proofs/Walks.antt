@@ -12,8 +12,7 @@ use Rattle.positions.specs.Positions.{sumOver}
 use Rattle.positions.proofs.Sums as S
 use Rattle.positions.proofs.Counts.{over-const}
 use Rattle.bits.specs.Bit.{bit}
-use Rattle.bits.proofs.Bits.{bit-zero, bit-and}
-use Rattle.bits.proofs.Masks.{bit-without}
+use Rattle.bits.proofs.Bits.{bit-zero}
 use Rattle.bits.proofs.Ones.{bit-drop-lowest, ones-countFrom, tz-lt, tz-set}
 
 module _ (w : ℕ) (f : ℕ → ℕ) where
@@ -28,16 +27,6 @@ module _ (w : ℕ) (f : ℕ → ℕ) where
       S.over-remove (bit m) f t 0 w zero-le (omega (arith, tz-lt w m ne h)) (tz-set w m ne h)
       ∙ ap (λ (x : ℕ). f t + x)
       (S.over-ext (λ k. bit m k && not (eqb k t)) (bit (bitAnd m (m - 1))) f 0 w (λ k p q. sym (bit-drop-lowest w m ne h k)))
-
-  -- the bits of m that a lacks, and those that it has
-  pub walk-split : (m a : ℕ) → m < 2 ^ w → a < 2 ^ w
-      → sumOver (bit m) f 0 w ≡ sumOver (bit (bitAnd m ((2 ^ w - 1) - a))) f 0 w + sumOver (bit (bitAnd m a)) f 0 w
-  walk-split m a hm ha =
-      S.over-diff (bit m) (bit a) f 0 w
-      ∙ ap (λ (x : ℕ). x + sumOver (λ i. bit m i && bit a i) f 0 w)
-      (S.over-ext (λ i. bit m i && not (bit a i)) (bit (bitAnd m ((2 ^ w - 1) - a))) f 0 w (λ i p q. sym (bit-without w m a i hm ha)))
-      ∙ ap (λ (x : ℕ). sumOver (bit (bitAnd m ((2 ^ w - 1) - a))) f 0 w + x)
-      (S.over-ext (λ i. bit m i && bit a i) (bit (bitAnd m a)) f 0 w (λ i p q. sym (bit-and m a i)))
 
   -- the same term at every bit
   pub walk-const : (m v : ℕ) → m < 2 ^ w → ((i : ℕ) → i < w → bit m i ≡ true → f i ≡ v) → sumOver (bit m) f 0 w ≡ ones m * v

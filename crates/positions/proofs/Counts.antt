@@ -1,12 +1,10 @@
 -- Laws of `countFrom` and `count`, how many positions of a range a set has: those of `sumOver` at 1, and what holds of
 -- counts alone. Assumes nothing.
 use mathlib.Core.Path.{_≡_, refl, sym, ap, _∙_}
-use mathlib.Core.Bool.{Bool, true, false, not, _&&_, _||_}
+use mathlib.Core.Bool.{Bool, true, false, not}
 use Prim.Native.Nat.{ℕ, zero, suc, _+_, _-_, _*_, _≤_, _<_}
 use native.Mathlib.Nat.{le-refl, mul-one, not-suc-le-zero, one-mul, zero-mul}
 use native.Mathlib.Omega.{arith}
-use borrow.Author.Tests.{not-false}
-use lib.Dec.{eqb}
 use Rattle.positions.specs.Positions.{Positions, kept, one, sumOver, countFrom, count, total}
 use Rattle.positions.proofs.Sums as S
 use Rattle.positions.proofs.Totals as T
@@ -20,10 +18,6 @@ module _ (s : ℕ → Bool) where
   unfolding countFrom
   countFrom-first a n = S.over-first s (λ i. 1) a n
 
-  pub countFrom-last : (a n : ℕ) → countFrom s a (suc n) ≡ countFrom s a n + kept (s (a + n)) 1
-  unfolding countFrom
-  countFrom-last a n = S.over-last s (λ i. 1) a n
-
   -- split at a point
   pub countFrom-add : (a m n : ℕ) → countFrom s a (m + n) ≡ countFrom s a m + countFrom s (a + m) n
   unfolding countFrom
@@ -32,11 +26,6 @@ module _ (s : ℕ → Bool) where
   pub countFrom-shift : (k a n : ℕ) → countFrom s (k + a) n ≡ countFrom (λ i. s (k + i)) a n
   unfolding countFrom
   countFrom-shift k a n = S.over-shift s (λ i. 1) k a n
-
-  -- rows of w positions each
-  pub countFrom-rows : (w a m : ℕ) → total (λ k. countFrom s (w * k) w) a m ≡ countFrom s (w * a) (w * m)
-  unfolding countFrom
-  countFrom-rows w a m = S.over-rows s (λ i. 1) w a m
 
   pub countFrom-le : (a n : ℕ) → countFrom s a n ≤ n
   unfolding countFrom
@@ -54,12 +43,6 @@ module _ (s : ℕ → Bool) where
   one-or-not true = refl
   one-or-not false = refl
 
-  pub countFrom-not : (a n : ℕ) → countFrom s a n + countFrom (λ i. not (s i)) a n ≡ n
-  unfolding countFrom sumOver
-  countFrom-not a n =
-      sym (T.total-plus (λ i. kept (s i) 1) (λ i. kept (not (s i)) 1) a n)
-      ∙ T.total-const (λ i. kept (s i) 1 + kept (not (s i)) 1) 1 a n (λ i l k. one-or-not (s i)) ∙ mul-one n
-
   none-kept : (b : Bool) → kept b 1 ≤ 0 → b ≡ false
   none-kept true h = absurd (not-suc-le-zero h)
   none-kept false h = refl
@@ -69,46 +52,10 @@ module _ (s : ℕ → Bool) where
   unfolding countFrom sumOver
   countFrom-empty a n e i l h = none-kept (s i) (omega (arith, T.total-at (λ j. kept (s j) 1) a n i l h, e))
 
--- a count of n: it has all
-pub countFrom-full : (s : ℕ → Bool) (a n : ℕ) → countFrom s a n ≡ n → (i : ℕ) → a ≤ i → i < a + n → s i ≡ true
-countFrom-full s a n e i l h = not-false (s i) (countFrom-empty (λ j. not (s j)) a n (omega (arith, countFrom-not s a n)) i l h)
-
 module _ (s t : ℕ → Bool) where
   pub countFrom-ext : (a n : ℕ) → ((i : ℕ) → a ≤ i → i < a + n → s i ≡ t i) → countFrom s a n ≡ countFrom t a n
   unfolding countFrom
   countFrom-ext a n h = S.over-ext s t (λ i. 1) a n h
-
-  pub countFrom-mono : (a n : ℕ) → ((i : ℕ) → a ≤ i → i < a + n → s i ≡ true → t i ≡ true) → countFrom s a n ≤ countFrom t a n
-  unfolding countFrom
-  countFrom-mono a n h = S.over-mono s t (λ i. 1) a n h
-
-  pub countFrom-union : (a n : ℕ) → countFrom (λ i. s i || t i) a n + countFrom (λ i. s i && t i) a n ≡ countFrom s a n + countFrom t a n
-  unfolding countFrom
-  countFrom-union a n = S.over-union s t (λ i. 1) a n
-
-  -- what s has outside t, and inside
-  pub countFrom-diff : (a n : ℕ) → countFrom s a n ≡ countFrom (λ i. s i && not (t i)) a n + countFrom (λ i. s i && t i) a n
-  unfolding countFrom
-  countFrom-diff a n = S.over-diff s t (λ i. 1) a n
-
-  -- what t adds to s
-  pub countFrom-gain : (a n : ℕ) → countFrom (λ i. s i || t i) a n ≡ countFrom s a n + countFrom (λ i. t i && not (s i)) a n
-  unfolding countFrom
-  countFrom-gain a n = S.over-gain s t (λ i. 1) a n
-
--- one position
-pub countFrom-single : (j a n : ℕ) → a ≤ j → j < a + n → countFrom (λ i. eqb i j) a n ≡ 1
-unfolding countFrom
-countFrom-single j a n l h = S.over-single (λ i. 1) j a n l h
-
-module _ (s : ℕ → Bool) (j a n : ℕ) (l : a ≤ j) (h : j < a + n) where
-  pub countFrom-insert : s j ≡ false → countFrom (λ i. s i || eqb i j) a n ≡ 1 + countFrom s a n
-  unfolding countFrom
-  countFrom-insert e = S.over-insert s (λ i. 1) j a n l h e
-
-  pub countFrom-remove : s j ≡ true → countFrom s a n ≡ 1 + countFrom (λ i. s i && not (eqb i j)) a n
-  unfolding countFrom
-  countFrom-remove e = S.over-remove s (λ i. 1) j a n l h e
 
 -- terms that are all v on the set
 kept-const : (b : Bool) (u v : ℕ) → (b ≡ true → u ≡ v) → kept b u ≡ kept b 1 * v

@@ -1,40 +1,24 @@
 -- The laws of `sumOver`, a sum over a set's positions in a range. Assumes nothing.
 use mathlib.Core.Path.{_≡_, refl, sym, ap, ap₂, _∙_}
-use mathlib.Core.Bool.{Bool, true, false, not, _&&_, _||_, and-false, and-true}
+use mathlib.Core.Bool.{Bool, true, false, not, _&&_, and-false}
 use Prim.Native.Nat.{ℕ, zero, suc, _+_, _-_, _*_, _≤_, _<_, zero-le}
 use native.Mathlib.Nat.{add-zero, zero-add, le-of-eq, mul-zero}
 use native.Mathlib.Omega.{arith}
 use borrow.Author.Tests.{eqb-true, eq-eqb, ne-eqb}
 use lib.Dec.{eqb}
-use Rattle.positions.specs.Positions.{kept, sumOver, total}
+use Rattle.positions.specs.Positions.{kept, sumOver}
 use Rattle.positions.proofs.Totals as T
 
 -- ---- one term
-
-kept-union : (b c : Bool) (v : ℕ) → kept (b || c) v + kept (b && c) v ≡ kept b v + kept c v
-kept-union true c v = refl
-kept-union false c v = add-zero (kept c v) ∙ sym (zero-add (kept c v))
 
 kept-diff : (b c : Bool) (v : ℕ) → kept b v ≡ kept (b && not c) v + kept (b && c) v
 kept-diff true true v = sym (zero-add v)
 kept-diff true false v = sym (add-zero v)
 kept-diff false c v = refl
 
-kept-gain : (b c : Bool) (v : ℕ) → kept (b || c) v ≡ kept b v + kept (c && not b) v
-kept-gain true c v = sym (ap (λ (x : Bool). v + kept x v) (and-false c) ∙ add-zero v)
-kept-gain false c v = sym (ap (λ (x : Bool). 0 + kept x v) (and-true c) ∙ zero-add (kept c v))
-
-kept-le : (b : Bool) (v u : ℕ) → v ≤ u → kept b v ≤ kept b u
-kept-le true v u h = h
-kept-le false v u h = zero-le
-
 pub kept-at-most : (b : Bool) (v : ℕ) → kept b v ≤ v
 kept-at-most true v = le-of-eq refl
 kept-at-most false v = zero-le
-
-kept-mono : (b c : Bool) (v : ℕ) → (b ≡ true → c ≡ true) → kept b v ≤ kept c v
-kept-mono true c v h = le-of-eq (ap (λ (x : Bool). kept x v) (sym (h refl)))
-kept-mono false c v h = zero-le
 
 -- where only a set's positions matter, an equation is asked for those alone
 kept-ext : (b : Bool) (v u : ℕ) → (b ≡ true → v ≡ u) → kept b v ≡ kept b u
@@ -52,10 +36,6 @@ module _ (s : ℕ → Bool) (f : ℕ → ℕ) where
   unfolding sumOver
   over-first a n = T.total-first (λ i. kept (s i) (f i)) a n
 
-  pub over-last : (a n : ℕ) → sumOver s f a (suc n) ≡ sumOver s f a n + kept (s (a + n)) (f (a + n))
-  unfolding sumOver
-  over-last a n = T.total-last (λ i. kept (s i) (f i)) a n
-
   -- split at a point
   pub over-add : (a m n : ℕ) → sumOver s f a (m + n) ≡ sumOver s f a m + sumOver s f (a + m) n
   unfolding sumOver
@@ -70,18 +50,9 @@ module _ (s : ℕ → Bool) (f : ℕ → ℕ) where
   unfolding sumOver
   over-split a n i l h = T.total-split (λ j. kept (s j) (f j)) a n i l h
 
-  -- rows of w positions each
-  pub over-rows : (w a m : ℕ) → total (λ k. sumOver s f (w * k) w) a m ≡ sumOver s f (w * a) (w * m)
-  unfolding sumOver
-  over-rows w a m = T.total-rows (λ i. kept (s i) (f i)) w a m
-
   pub over-none : (a n : ℕ) → ((i : ℕ) → a ≤ i → i < a + n → s i ≡ false) → sumOver s f a n ≡ 0
   unfolding sumOver
   over-none a n h = T.total-const (λ i. kept (s i) (f i)) 0 a n (λ i l k. ap (λ (b : Bool). kept b (f i)) (h i l k)) ∙ mul-zero n
-
-  pub over-at : (a n i : ℕ) → a ≤ i → i < a + n → s i ≡ true → f i ≤ sumOver s f a n
-  unfolding sumOver
-  over-at a n i l h e = omega (arith, T.total-at (λ j. kept (s j) (f j)) a n i l h, ap (λ (b : Bool). kept b (f i)) e)
 
 -- ---- two functions, two sets
 
@@ -89,10 +60,6 @@ module _ (s : ℕ → Bool) (f g : ℕ → ℕ) where
   pub over-terms : (a n : ℕ) → ((i : ℕ) → a ≤ i → i < a + n → s i ≡ true → f i ≡ g i) → sumOver s f a n ≡ sumOver s g a n
   unfolding sumOver
   over-terms a n h = T.total-ext (λ i. kept (s i) (f i)) (λ i. kept (s i) (g i)) a n (λ i l k. kept-ext (s i) (f i) (g i) (h i l k))
-
-  pub over-le : (a n : ℕ) → ((i : ℕ) → a ≤ i → i < a + n → f i ≤ g i) → sumOver s f a n ≤ sumOver s g a n
-  unfolding sumOver
-  over-le a n h = T.total-le (λ i. kept (s i) (f i)) (λ i. kept (s i) (g i)) a n (λ i l k. kept-le (s i) (f i) (g i) (h i l k))
 
 -- every term at most v
 pub over-bound : (s : ℕ → Bool) (f : ℕ → ℕ) (v a n : ℕ) → ((i : ℕ) → a ≤ i → i < a + n → f i ≤ v) → sumOver s f a n ≤ n * v
@@ -109,30 +76,12 @@ module _ (s t : ℕ → Bool) (f : ℕ → ℕ) where
   unfolding sumOver
   over-ext a n h = T.total-ext (λ i. kept (s i) (f i)) (λ i. kept (t i) (f i)) a n (λ i l k. ap (λ (b : Bool). kept b (f i)) (h i l k))
 
-  pub over-mono : (a n : ℕ) → ((i : ℕ) → a ≤ i → i < a + n → s i ≡ true → t i ≡ true) → sumOver s f a n ≤ sumOver t f a n
-  unfolding sumOver
-  over-mono a n h = T.total-le (λ i. kept (s i) (f i)) (λ i. kept (t i) (f i)) a n (λ i l k. kept-mono (s i) (t i) (f i) (h i l k))
-
-  pub over-union : (a n : ℕ) → sumOver (λ i. s i || t i) f a n + sumOver (λ i. s i && t i) f a n ≡ sumOver s f a n + sumOver t f a n
-  unfolding sumOver
-  over-union a n =
-      sym (T.total-plus (λ i. kept (s i || t i) (f i)) (λ i. kept (s i && t i) (f i)) a n)
-      ∙ T.total-ext (λ i. kept (s i || t i) (f i) + kept (s i && t i) (f i)) (λ i. kept (s i) (f i) + kept (t i) (f i)) a n (λ i l k. kept-union (s i) (t i) (f i))
-      ∙ T.total-plus (λ i. kept (s i) (f i)) (λ i. kept (t i) (f i)) a n
-
   -- what s has outside t, and inside
   pub over-diff : (a n : ℕ) → sumOver s f a n ≡ sumOver (λ i. s i && not (t i)) f a n + sumOver (λ i. s i && t i) f a n
   unfolding sumOver
   over-diff a n =
       T.total-ext (λ i. kept (s i) (f i)) (λ i. kept (s i && not (t i)) (f i) + kept (s i && t i) (f i)) a n (λ i l k. kept-diff (s i) (t i) (f i))
       ∙ T.total-plus (λ i. kept (s i && not (t i)) (f i)) (λ i. kept (s i && t i) (f i)) a n
-
-  -- what t adds to s
-  pub over-gain : (a n : ℕ) → sumOver (λ i. s i || t i) f a n ≡ sumOver s f a n + sumOver (λ i. t i && not (s i)) f a n
-  unfolding sumOver
-  over-gain a n =
-      T.total-ext (λ i. kept (s i || t i) (f i)) (λ i. kept (s i) (f i) + kept (t i && not (s i)) (f i)) a n (λ i l k. kept-gain (s i) (t i) (f i))
-      ∙ T.total-plus (λ i. kept (s i) (f i)) (λ i. kept (t i && not (s i)) (f i)) a n
 
 -- ---- one position
 
@@ -145,20 +94,6 @@ over-single f j a n l h =
     over-split s f a n j l h ∙ ap₂ _+_ before (ap₂ _+_ here after) ∙ zero-add (f j + 0) ∙ add-zero (f j)
 
 module _ (s : ℕ → Bool) (f : ℕ → ℕ) (j a n : ℕ) (l : a ≤ j) (h : j < a + n) where
-  none-new : (b : Bool) (i : ℕ) → eqb i j ≡ b → s j ≡ false → (s i && b) ≡ false
-  none-new true i q e = rw (eqb-true i j q, e) refl
-  none-new false i q e = and-false (s i)
-
-  -- one position more
-  pub over-insert : s j ≡ false → sumOver (λ i. s i || eqb i j) f a n ≡ f j + sumOver s f a n
-  over-insert e =
-      omega (
-        arith,
-        over-union s (λ i. eqb i j) f a n,
-        over-single f j a n l h,
-        over-none (λ i. s i && eqb i j) f a n (λ i p q. none-new (eqb i j) i refl e),
-      )
-
   only-j : (b : Bool) (i : ℕ) → eqb i j ≡ b → s j ≡ true → (s i && b) ≡ b
   only-j true i q e = rw (eqb-true i j q, e) refl
   only-j false i q e = and-false (s i)

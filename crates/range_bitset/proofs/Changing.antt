@@ -38,6 +38,7 @@ module _ {f : Positions → Reply} {g : Positions → Positions} {begins : Bool}
         refuses = ap refused q ∙ e;
         unchanged = λ w. (refl, refl);
         kept = refl;
+        same-words = refl;
         answers = λ w. absurd (z (e ∙ w));
         head = λ w. absurd (z (e ∙ w));
         represents = λ w. absurd (z (e ∙ w));
@@ -51,6 +52,7 @@ module _ {f : Positions → Reply} {g : Positions → Positions} {begins : Bool}
         refuses = z ∙ sym e;
         unchanged = λ w. (refl, refl);
         kept = refl;
+        same-words = refl;
         answers = λ w s t. q s t .0;
         head = λ w s t.
             head-is h _ _ (t .counted ∙ ap (λ (x : Positions). count x 0 (capacityOf h)) (sym (q s t .1))) (q s t .2);
@@ -66,6 +68,7 @@ module _ {f : Positions → Reply} {g : Positions → Positions} {begins : Bool}
         refuses = z ∙ sym e;
         unchanged = λ w. absurd (w e);
         kept = d;
+        same-words = refl;
         answers = λ w s t. q s t .0;
         head = λ w s t. head-is (headOf (h .words) n true) _ _ (q s t .1) (q s t .2);
         represents = λ w s t.
@@ -215,6 +218,7 @@ module _ (h : RangeBitset) (st : List ℕ) (z : storageRefusal h (length st) ≡
         refuses = sym z;
         unchanged = λ w. (refl, refl);
         kept = refl;
+        same-words = refl;
         answers = λ w s t. ap Number (t .counted);
         head = λ w s t. head-is h _ _ (empty s t) (sym (or-false (h .allocated)));
         represents = λ w s t.
@@ -231,6 +235,7 @@ module _ (h : RangeBitset) (st : List ℕ) (z : storageRefusal h (length st) ≡
         refuses = sym z;
         unchanged = λ w. absurd (w z);
         kept = b .kept;
+        same-words = refl;
         answers = λ w s t. ap Number (t .counted);
         head = λ w s t. head-is (headOf (h .words) 0 (h .allocated)) _ _ empty (sym (or-false (h .allocated)));
         represents = λ w s t.

@@ -18,3 +18,5 @@ pub mod Candidates
 pub mod Searching
 pub mod SoundStorage
 pub mod Soundness
+pub mod AuditBlocks
+pub mod Audits

@@ -44,6 +44,14 @@ cond-mixed false false e = let z : _≡_ {A = ℕ} 0 1 = ap code e in absurd (om
 
 -- ---- the words that a storage reads
 
+-- a word of block b, by the block's state
+pub read-by : (W : ℕ) (st : List ℕ) (b : ℕ) (x : State) → stateOf W st b ≡ x → (j : ℕ) → j < 64
+    → wordRead W st (64 * b + j) ≡ byState x (mixedRead W st (64 * b + j))
+unfolding wordRead
+read-by W st b x e j h =
+    let d : (64 * b + j) / 64 ≡ b = omega arith in
+    ap (λ (y : State). byState y (mixedRead W st (64 * b + j))) (ap (stateOf W st) d ∙ e)
+
 module _ (W : ℕ) (st : List ℕ) (u : Words st) where
   mixed-lt : (k : ℕ) → mixedRead W st k < 2 ^ 64
   unfolding mixedRead
@@ -74,13 +82,10 @@ module _ (W : ℕ) (st : List ℕ) (u : Words st) where
   -- ---- from the rules to the set
 
   module _ (o : SoundStorage W st) (b : ℕ) (l : b < blocks W) where
-    -- a word of block b, by the block's state
+    -- a word of the set, by its block's state
     word-by : (x : State) → stateOf W st b ≡ x → (j : ℕ) → j < wordsOf W b
         → wordOf (plain W st) (64 * b + j) ≡ byState x (mixedRead W st (64 * b + j))
-    unfolding wordRead
-    word-by x e j h =
-        let d : (64 * b + j) / 64 ≡ b = omega arith in
-        plain-word (64 * b + j) ∙ ap (λ (y : State). byState y (mixedRead W st (64 * b + j))) (ap (stateOf W st) d ∙ e)
+    word-by x e j h = plain-word (64 * b + j) ∙ read-by W st b x e j (omega arith)
 
     -- what the masks of a mixed block say of its words
     module _ (m : stateOf W st b ≡ Mixed) where

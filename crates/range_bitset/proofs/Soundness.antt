@@ -1,9 +1,10 @@
 -- What 01's rules are worth: head and storage are sound exactly when they represent the set `has` that the masks read; and
--- a represented set fixes every number that is not stale. Assumes nothing.
+-- a represented set fixes every number that is not stale, and no other. Assumes nothing.
 use mathlib.Core.Path.{_≡_, refl, ap, sym, _∙_, subst, ap₂, fun-ext}
 use mathlib.Core.Bool.{Bool, true, false, not, _&&_, cond}
 use mathlib.Core.List.{List}
 use Prim.Native.Nat.{ℕ, _+_, _*_, _/_, _%_, _<_}
+use native.Mathlib.Omega.{arith}
 use borrow.Author.Tests.{not-true}
 use Rattle.positions.specs.Positions.{Positions, count}
 use Rattle.positions.proofs.Bools.{and-left, and-right}
@@ -144,3 +145,20 @@ represented-fixes W st st′ s r r′ t i = (
       let l = sym (live-is W st s r t i) ∙ e in
       value-is W st s r t i l ∙ sym (value-is W st′ s r′ t i l),
 )
+
+-- and a stale number may be anything: a storage that agrees on every other slot holds the same set
+pub stale-free : (W : ℕ) (st st′ : List ℕ) (s : Positions) → Stored W st s
+    → ((t : Slot) → In W t → live W st t ≡ true → at W st′ t ≡ at W st t) → Stored W st′ s
+unfolding liveOf valueOf
+stale-free W st st′ s r same =
+    record {
+      top-nonzero = keeps topNonzero (omega arith) refl;
+      top-full = keeps topFull (omega arith) refl;
+      nonzeros = λ b l m. keeps (nonzero b) l m;
+      fulls = λ b l m. keeps (full b) l m;
+      counts = λ b l m. keeps (population b) l m;
+      stored = λ k l m a f. keeps (word k) l (ap₂ _&&_ m (ap₂ (λ (x y : Bool). not x && y) f a));
+    }
+  where
+    keeps : (t : Slot) → In W t → liveOf W s t ≡ true → at W st′ t ≡ valueOf W s t
+    keeps t i e = same t i (live-is W st s r t i ∙ e) ∙ value-is W st s r t i e

@@ -8,6 +8,7 @@ use lib.ListN.{drop, length}
 use Rattle.positions.specs.Positions.{Positions, none, assigned, count, changedCount, first, one}
 use Rattle.range_bitset.specs.Layout.{needed}
 use Rattle.range_bitset.specs.Represents.{Represents, capacityOf}
+use Rattle.range_bitset.specs.Sound.{Sound}
 use Rattle.range_bitset.specs.Answers.{Reply, Number, Refusal, ofCounted, ofTested, ofPlace, ofFound, refused, allowedCapacity, goodHead, headRefusal, storageRefusal, rangeRefusal, pointRefusal}
 use Rattle.range_bitset.specs.declared.RangeBitset.{RangeBitset}
 use Rattle.range_bitset.specs.declared.Made.{Made}
@@ -30,10 +31,11 @@ pub record Answers (k : ℕ) (h : RangeBitset) (st : List ℕ) (f : Positions �
 -- `g s` is the set afterwards, `begins` whether the call is a first setting
 pub record Changes (k : ℕ) (h : RangeBitset) (st : List ℕ) (f : Positions → Reply) (g : Positions → Positions) (begins : Bool)
     (r : Reply) (h′ : RangeBitset) (st′ : List ℕ) : Type 0 where
-  -- on any memory: refused exactly so, and then nothing is changed; numbers past those needed never are
+  -- on any memory: refused exactly so, and then nothing is changed; numbers past those needed and the word count never are
   pub refuses : refused r ≡ k
   pub unchanged : (k ≡ 0 → ⊥) → (h′ ≡ h) × (st′ ≡ st)
   pub kept : drop (needed (h .words)) st′ ≡ drop (needed (h .words)) st
+  pub same-words : h′ .words ≡ h .words
   -- for every set that the memory represents: the one answer, the new head, and every number that is not stale
   pub answers : k ≡ 0 → (s : Positions) → Represents h st s → r ≡ f s
   pub head : k ≡ 0 → (s : Positions) → Represents h st s
@@ -82,3 +84,9 @@ abbrev pub ClearEnsures : RangeBitset → List ℕ → Assigned → List ℕ →
 ClearEnsures h st r st′ =
     Changes (storageRefusal h (length st)) h st (λ s. Number (count s 0 (capacityOf h))) (λ s. none) false
     (ofCounted (r .answer)) (r .head) st′
+
+-- on any memory: refused exactly so, and else 1, 01's yes, exactly where head and storage are sound
+pub record AuditEnsures (h : RangeBitset) (st : List ℕ) (r : Tested) : Type 0 where
+  pub refuses : refused (ofTested r) ≡ storageRefusal h (length st)
+  pub yes : ofTested r ≡ Number 1 → Sound h st
+  pub sound : storageRefusal h (length st) ≡ 0 → Sound h st → ofTested r ≡ Number 1

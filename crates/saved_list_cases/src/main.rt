@@ -1,0 +1,92 @@
+// Reads each saved list that its arguments name, and prints what the reader gives, in the order of opening: the name, then
+// refusal 7 for the header, 7 for the length, or 8 with the first bad run's index, or else W, n and the runs.
+// What it prints is held to `stdout`, which was made from 01's format and not by this code.
+use libc::STDOUT_FILENO;
+use saved_list::FoundRun;
+use saved_list::Header;
+use saved_list::LengthCheck;
+use saved_list::RunCheck;
+
+fn say(text: &[u8]) {
+    io::write_all(STDOUT_FILENO, text);
+}
+
+fn say_number(n: u64) {
+    io::print_decimal(STDOUT_FILENO, n);
+}
+
+// The run of an index, as start..end, and whether there is one.
+fn print_run(file: &[u8], index: usize) -> bool {
+    let found = saved_list::run_at(file, index);
+    let FoundRun::At(start, end) = found else {
+        return false;
+    };
+    say(b", ");
+    say_number(start as u64);
+    say(b"..");
+    say_number(end as u64);
+    true
+}
+
+// Each run, from the first to the last. There are fewer than bytes.
+fn print_runs(file: &[u8]) {
+    let mut index = 0;
+    while index < file.len() && print_run(file, index) {
+        index += 1;
+    }
+}
+
+// The run rule, and the runs where none is bad.
+fn print_checked(file: &[u8], words: u16, count: u32) {
+    match saved_list::check_runs(file) {
+        RunCheck::BadRun(index) => {
+            say(b"refused 8, run ");
+            say_number(index as u64);
+        }
+        RunCheck::AllGood => {
+            say(b"W ");
+            say_number(words as u64);
+            say(b", n ");
+            say_number(count as u64);
+            print_runs(file);
+        }
+    }
+}
+
+// What opening the file gives, but for refusals 1 and 3.
+fn print_file(file: &[u8]) {
+    match saved_list::read_header(file) {
+        Header::BadHeader => say(b"refused 7, header"),
+        Header::Fields(words, count) => match saved_list::check_length(file) {
+            LengthCheck::BadLength => say(b"refused 7, length"),
+            LengthCheck::GoodLength => print_checked(file, words, count),
+        },
+    }
+}
+
+// The file that an argument names, on one line.
+fn print_named(argument: usize) {
+    let mut path = io::buffer();
+    let length = os::arg(argument, &mut path);
+    let fd = os::open_read(&path[..length]);
+    if fd < 0 {
+        os::fail(&path[..length]);
+        return;
+    }
+    let mut bytes = io::buffer();
+    let n = io::read_full(fd, &mut bytes);
+    libc::close(fd);
+    say(&path[..length]);
+    say(b": ");
+    print_file(&bytes[..n]);
+    say(b"\n");
+}
+
+fn main() {
+    let count = os::arg_count();
+    let mut argument = 1;
+    while argument < count {
+        print_named(argument);
+        argument += 1;
+    }
+}
