@@ -188,7 +188,8 @@ pub extern "C" fn klado_set_set(
 ) -> KladoSetAnswer
     ensures { λ r. ⌜ SetTold head (now (storage .entry)) index value r (now (storage .exit)) ⌝ }
 {
-    let got = set_of(head).set(storage, index, value);
+    let before = set_of(head);
+    let got = before.set(storage, index, value);
     let answer = got.answer;
     let after = got.head;
     with_head(of_tested(answer), after)
@@ -204,7 +205,8 @@ pub extern "C" fn klado_set_assign(
 ) -> KladoSetAnswer
     ensures { λ r. ⌜ AssignTold head (now (storage .entry)) start end value r (now (storage .exit)) ⌝ }
 {
-    let got = set_of(head).assign(storage, start, end, value);
+    let before = set_of(head);
+    let got = before.assign(storage, start, end, value);
     let answer = got.answer;
     let after = got.head;
     with_head(of_counted(answer), after)
@@ -250,7 +252,8 @@ pub extern "C" fn klado_set_next_zero(
 pub extern "C" fn klado_set_clear(head: KladoSet, storage: &mut [u64]) -> KladoSetAnswer
     ensures { λ r. ⌜ ClearTold head (now (storage .entry)) r (now (storage .exit)) ⌝ }
 {
-    let got = set_of(head).clear(storage);
+    let before = set_of(head);
+    let got = before.clear(storage);
     let answer = got.answer;
     let after = got.head;
     with_head(of_counted(answer), after)
