@@ -1,0 +1,143 @@
+-- `assign` meets its contract: one law of Recording for each return. `b` is where the lent slices were accepted, `f` where the
+-- journal had room, `n` where the runs were counted, `w` where they were written, `a` where the range was given its value.
+-- Assumes nothing.
+use Rattle.ledger.proofs.Recording.{not-lent, outside, none-left, too-many, recorded}
+use Rattle.ledger.proofs.Refusals.{lent-accepted}
+use native.Mathlib.Omega.{arith}
+use mathlib.Core.Path.{sym, _∙_}
+use borrow.Author.Needs.{needs}
+use Rattle.ledger.proofs.Ledger.assign.Statement.{statement}
+use Rattle.ledger.proofs.Ledger.assign.Tie as tie
+
+refusal-requires : tie.Need-refusal-requires
+refusal-requires c κs = search needs
+
+declined-requires : tie.Need-declined-requires
+declined-requires c κs = search needs
+
+returns : tie.Need-returns
+returns c =
+    not-lent _ _ _ _ _ _ _ (c .declined .result .answer) (c .declined .result .head) (c .declined .ensures .0) (c .declined .ensures .1) (c .before .before .refusal .ensures) (c .before .if1 .taken)
+
+cast-if2 : tie.Need-cast-if2
+cast-if2 c = search needs
+
+mul-if2 : tie.Need-mul-if2
+mul-if2 c = search needs
+
+declined-requires-2 : tie.Need-declined-requires-2
+declined-requires-2 c κs = search needs
+
+returns-2 : tie.Need-returns-2
+returns-2 c =
+    let b = c .before .before .before .before in
+    outside _ _ _ _ _ _ (c .declined2 .result .answer) (c .declined2 .result .head) (c .declined2 .ensures .0) (c .declined2 .ensures .1) (sym (b .before .refusal .ensures) ∙ b .if1 .left) (c .before .if2 .taken)
+
+declined-requires-3 : tie.Need-declined-requires-3
+declined-requires-3 c κs = search needs
+
+returns-3 : tie.Need-returns-3
+returns-3 c =
+    let b = c .before .before .before .before .before in
+    none-left _ _ _ _ _ _ (c .declined3 .result .answer) (c .declined3 .result .head) (c .declined3 .ensures .0) (c .declined3 .ensures .1) (sym (b .before .refusal .ensures) ∙ b .if1 .left) (omega arith) (c .before .if3 .taken)
+
+sub-most : tie.Need-sub-most
+sub-most c =
+    let b = c .before .before .before .before in
+    let l = lent-accepted _ _ _ (sym (b .before .refusal .ensures) ∙ b .if1 .left) in
+    omega arith
+
+sub-most-2 : tie.Need-sub-most-2
+sub-most-2 c =
+    let b = c .before .before .before .before in
+    let l = lent-accepted _ _ _ (sym (b .before .refusal .ensures) ∙ b .if1 .left) in
+    omega arith
+
+add-count-runs : tie.Need-add-count-runs
+add-count-runs c = search needs
+
+count-runs-requires : tie.Need-count-runs-requires
+count-runs-requires c κs = search needs
+
+declined-requires-4 : tie.Need-declined-requires-4
+declined-requires-4 c κs = search needs
+
+same-length : tie.Need-same-length
+same-length c = search needs
+
+returns-4 : tie.Need-returns-4
+returns-4 c =
+    let n = c .before .before in
+    let b = n .before .before .before .before .before .before in
+    too-many _ _ _ _ _ _ _ _ (c .declined4 .result .answer) (c .declined4 .result .head) (c .declined4 .ensures .0) (c .declined4 .ensures .1) (sym (b .before .refusal .ensures) ∙ b .if1 .left) (omega arith) (omega arith) (n .count-runs .ensures) (omega arith)
+
+write-call-requires : tie.Need-write-call-requires
+write-call-requires c κs =
+    let b = c .before .before .before .before .before .before .before .before .before in
+    let l = lent-accepted _ _ _ (sym (b .before .refusal .ensures) ∙ b .if1 .left) in
+    (omega arith, omega arith)
+
+assign-requires : tie.Need-assign-requires
+assign-requires c κs = search needs
+
+mul-t19 : tie.Need-mul-t19
+mul-t19 c =
+    let b = c .before .before .before .before .before .before .before .before .before .before .before .before .before .before .before .before .before in
+    let l = lent-accepted _ _ _ (sym (b .before .refusal .ensures) ∙ b .if1 .left) in
+    omega arith
+
+add-t20 : tie.Need-add-t20
+add-t20 c =
+    let b = c .before .before .before .before .before .before .before .before .before .before .before .before .before .before .before .before .before in
+    let l = lent-accepted _ _ _ (sym (b .before .refusal .ensures) ∙ b .if1 .left) in
+    omega arith
+
+add-t30 : tie.Need-add-t30
+add-t30 c =
+    let b = c .before .before .before .before .before .before .before .before .before .before .before .before .before .before .before .before .before in
+    let l = lent-accepted _ _ _ (sym (b .before .refusal .ensures) ∙ b .if1 .left) in
+    omega arith
+
+same-length-2 : tie.Need-same-length-2
+same-length-2 c = search needs
+
+same-length-3 : tie.Need-same-length-3
+same-length-3 c = search needs
+
+returns-5 : tie.Need-returns-5
+returns-5 c =
+    let a = c .before .before .before in
+    let w = a .before .before .before .before in
+    let n = w .before .before .before .before in
+    let f = n .before .before in
+    let b = f .before .before .before .before in
+    recorded _ _ _ _ _ _ _ _ _ _ (a .assign .result) (sym (b .before .refusal .ensures) ∙ b .if1 .left) (omega arith) (f .if3 .left) (omega arith) (n .count-runs .ensures) (omega arith) (w .write-call .ensures) (omega arith) (a .assign .ensures) (omega arith)
+
+pub assign-spec : {M : Type 1} → statement M
+assign-spec =
+    tie.close
+    (tie.spec
+    refusal-requires
+    declined-requires
+    returns
+    cast-if2
+    mul-if2
+    declined-requires-2
+    returns-2
+    declined-requires-3
+    returns-3
+    sub-most
+    sub-most-2
+    add-count-runs
+    count-runs-requires
+    declined-requires-4
+    same-length
+    returns-4
+    write-call-requires
+    assign-requires
+    mul-t19
+    add-t20
+    add-t30
+    same-length-2
+    same-length-3
+    returns-5)

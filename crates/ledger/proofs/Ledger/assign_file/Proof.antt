@@ -1,0 +1,95 @@
+-- `ledger::Ledger::assign_file` meets its contract. The loop's invariant: the first i runs are set. The measure is the number
+-- of runs left. Assumes nothing.
+use mathlib.Core.Path.{_≡_, refl, sym, ap, _∙_}
+use borrow.Author.Needs.{needs}
+use native.Mathlib.Omega.{arith}
+use Prim.Native.Nat.{_-_, _≤_}
+use lib.ListN.{length}
+use mathlib.Core.Bool.{true}
+use Rattle.ledger.specs.Inner.{fileRuns, Reassigns}
+use Rattle.saved_list.specs.Answers.{foundAnswer}
+use Rattle.saved_list.proofs.Opening.{found-is, found-none}
+use Rattle.ledger.proofs.Reassigning.{file-none, opens-turn, opens-all, opens-short}
+use Rattle.ledger.proofs.Ledger.assign_file.Statement.{statement}
+use Rattle.ledger.proofs.Ledger.assign_file.Tie as tie
+
+abbrev Inv-loop : tie.InvT-loop
+Inv-loop storage₀ file runs head₀ i₀ storage head i =
+    (i ≤ runs) × (length storage ≡ length storage₀) × Reassigns head₀ storage₀ (fileRuns file i) true head storage
+
+abbrev μ-loop : tie.MeasureT-loop
+μ-loop storage₀ file runs head₀ i₀ storage head i = runs - i
+
+loop-holds : tie.Need-loop-holds Inv-loop μ-loop
+loop-holds c = (omega arith, refl, file-none _ _ _)
+
+cast-run-at : tie.Need-cast-run-at Inv-loop μ-loop
+cast-run-at c = search needs
+
+run-at-requires : tie.Need-run-at-requires Inv-loop μ-loop
+run-at-requires c κs = search needs
+
+enum-known-start : tie.Need-enum-known-start Inv-loop μ-loop
+enum-known-start c = search needs
+
+enum-told : tie.Need-enum-told Inv-loop μ-loop
+enum-told c = search needs
+
+same-length : tie.Need-same-length Inv-loop μ-loop
+same-length c = c .before .before .before .before .loop .inv .1
+
+returns : tie.Need-returns Inv-loop μ-loop
+returns c =
+    opens-short _ _ _ _ _ _ _ (c .before .before .before .before .loop .inv .2) (found-none _ _ (sym (ap foundAnswer (c .enum-told .given .1)) ∙ c .before .before .run-at .ensures)) (c .before .before .before .loop-test .taken)
+
+cast-assign : tie.Need-cast-assign Inv-loop μ-loop
+cast-assign c = search needs
+
+cast-assign-2 : tie.Need-cast-assign-2 Inv-loop μ-loop
+cast-assign-2 c = search needs
+
+assign-requires : tie.Need-assign-requires Inv-loop μ-loop
+assign-requires c κs = search needs
+
+add-i : tie.Need-add-i Inv-loop μ-loop
+add-i c = search needs
+
+loop-less : tie.Need-loop-less Inv-loop μ-loop
+loop-less c = omega arith
+
+loop-again : tie.Need-loop-again Inv-loop μ-loop
+loop-again c =
+    let l = c .before .before .before .before .before .before .before .before .before .before .loop in
+    let k = found-is _ _ _ _ (sym (ap foundAnswer (c .before .before .before .before .before .before .start .given .1)) ∙ c .before .before .before .before .before .before .before .before .run-at .ensures) in
+    (omega arith, c .before .before .before .assign .kept .1 .0 ∙ l .inv .1, opens-turn _ _ _ 0 _ _ _ (l .inv .2) (l .inv .1) _ _ (k .1) (c .before .before .before .assign .result) _ (c .before .before .before .assign .ensures))
+
+same-length-2 : tie.Need-same-length-2 Inv-loop μ-loop
+same-length-2 c = c .before .loop .inv .1
+
+returns-2 : tie.Need-returns-2 Inv-loop μ-loop
+returns-2 c =
+    let l = c .before .loop in
+    let e : l .i ≡ c .before .before .before .before .args .runs = omega arith in
+    opens-all _ _ _ _ _ _ _ (l .inv .2) e
+
+pub assign-file-spec : {M : Type 1} → statement M
+assign-file-spec =
+    tie.close
+    (tie.spec
+    Inv-loop
+    μ-loop
+    loop-holds
+    cast-run-at
+    run-at-requires
+    enum-known-start
+    enum-told
+    same-length
+    returns
+    cast-assign
+    cast-assign-2
+    assign-requires
+    add-i
+    loop-less
+    loop-again
+    same-length-2
+    returns-2)

@@ -1,0 +1,42 @@
+-- `ledger::Ledger::last_call` meets its contract. Assumes nothing.
+use Rattle.ledger.proofs.Backing.{last-none, last-few, last-many}
+use borrow.Author.Needs.{needs}
+use Rattle.ledger.proofs.Ledger.last_call.Statement.{statement}
+use Rattle.ledger.proofs.Ledger.last_call.Tie as tie
+
+returns : tie.Need-returns
+returns c = last-none _ _ (c .if1 .taken)
+
+sub-last : tie.Need-sub-last
+sub-last c = search needs
+
+cast-last : tie.Need-cast-last
+cast-last c = search needs
+
+mul-last : tie.Need-mul-last
+mul-last c = search needs
+
+shared-slice-read-last : tie.Need-shared-slice-read-last
+shared-slice-read-last c = search needs
+
+sub-most : tie.Need-sub-most
+sub-most c = search needs
+
+returns-2 : tie.Need-returns-2
+returns-2 c = last-few _ _ (c .before .before .if1 .left) (c .if2 .taken)
+
+returns-3 : tie.Need-returns-3
+returns-3 c = last-many _ _ (c .before .before .if1 .left) (c .if2 .left)
+
+pub last-call-spec : {M : Type 1} → statement M
+last-call-spec =
+    tie.close
+    (tie.spec
+    returns
+    sub-last
+    cast-last
+    mul-last
+    shared-slice-read-last
+    sub-most
+    returns-2
+    returns-3)

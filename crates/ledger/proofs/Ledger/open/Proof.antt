@@ -1,0 +1,126 @@
+-- `ledger::Ledger::open` meets its contract. Assumes nothing.
+use borrow.Author.Tests.{not-true, not-false}
+use Rattle.ledger.proofs.Opening.{open-header, open-capacity, open-words, open-journal, open-length, open-lent, open-run, open-done}
+use borrow.Author.Needs.{needs}
+use Rattle.ledger.proofs.Ledger.open.Statement.{statement}
+use Rattle.ledger.proofs.Ledger.open.Tie as tie
+
+read-header-requires : tie.Need-read-header-requires
+read-header-requires c κs = search needs
+
+enum-known-words : tie.Need-enum-known-words
+enum-known-words c = search needs
+
+enum-told : tie.Need-enum-told
+enum-told c = search needs
+
+returns : tie.Need-returns
+returns c = open-header _ _ _ _ _ (c .before .before .read-header .ensures) (c .enum-told .given .1)
+
+cast-new : tie.Need-cast-new
+cast-new c = search needs
+
+mul-new : tie.Need-mul-new
+mul-new c = search needs
+
+new-requires : tie.Need-new-requires
+new-requires c κs = search needs
+
+enum-known-set : tie.Need-enum-known-set
+enum-known-set c = search needs
+
+enum-told-2 : tie.Need-enum-told-2
+enum-told-2 c = search needs
+
+returns-2 : tie.Need-returns-2
+returns-2 c =
+    open-capacity _ _ _ _ _ (c .before .before .before .before .before .before .read-header .ensures) _ _ (c .before .before .before .before .words .given .1) _ (c .before .before .new .ensures) _ (c .enum-told2 .given .1)
+
+cast-if1 : tie.Need-cast-if1
+cast-if1 c = search needs
+
+returns-3 : tie.Need-returns-3
+returns-3 c =
+    open-journal _ _ _ _ _ (c .before .before .before .before .before .before .before .before .read-header .ensures) _ _ (c .before .before .before .before .before .before .words .given .1) _ (c .before .before .before .before .new .ensures) _ (c .before .before .set .given .1) (c .if1 .taken)
+
+check-length-requires : tie.Need-check-length-requires
+check-length-requires c κs = search needs
+
+enum-told-3 : tie.Need-enum-told-3
+enum-told-3 c = search needs
+
+enum-told-4 : tie.Need-enum-told-4
+enum-told-4 c = search needs
+
+returns-4 : tie.Need-returns-4
+returns-4 c =
+    open-length _ _ _ _ _ (c .before .before .before .before .before .before .before .before .before .before .before .read-header .ensures) _ _ (c .before .before .before .before .before .before .before .before .before .words .given .1) _ (c .before .before .before .before .before .before .before .new .ensures) _ (c .before .before .before .before .before .set .given .1) (c .before .before .before .if1 .left) _ (c .before .before .check-length .ensures) (c .enum-told4 .given .1)
+
+cast-lent-enough : tie.Need-cast-lent-enough
+cast-lent-enough c = search needs
+
+lent-enough-requires : tie.Need-lent-enough-requires
+lent-enough-requires c κs =
+    open-words (c .before .before .before .before .before .before .before .before .before .before .before .before .before .before .before .args .file .now) (c .before .before .before .before .before .before .before .before .before .before .before .before .before .before .before .args .journal) (c .before .before .before .before .before .before .before .before .before .before .before .before .before .before .before .args .storage .now) (c .before .before .before .before .before .before .before .before .before .before .before .before .before .before .before .args .lent .now) _ (c .before .before .before .before .before .before .before .before .before .before .before .read-header .ensures) _ _ (c .before .before .before .before .before .before .before .before .before .words .given .1) _ (c .before .before .before .before .before .before .before .new .ensures) _ (c .before .before .before .before .before .set .given .1)
+
+returns-5 : tie.Need-returns-5
+returns-5 c =
+    open-lent _ _ _ _ _ (c .before .before .before .before .before .before .before .before .before .before .before .before .before .read-header .ensures) _ _ (c .before .before .before .before .before .before .before .before .before .before .before .words .given .1) _ (c .before .before .before .before .before .before .before .before .before .new .ensures) _ (c .before .before .before .before .before .before .before .set .given .1) (c .before .before .before .before .before .if1 .left) _ (c .before .before .before .before .check-length .ensures) (c .before .before .enum-told3 .given .1) _ (c .before .lent-enough .ensures) (not-true _ (c .if2 .taken))
+
+check-runs-requires : tie.Need-check-runs-requires
+check-runs-requires c κs = search needs
+
+enum-known-index : tie.Need-enum-known-index
+enum-known-index c = search needs
+
+returns-6 : tie.Need-returns-6
+returns-6 c =
+    open-run _ _ _ _ _ (c .before .before .before .before .before .before .before .before .before .before .before .before .before .before .before .before .before .read-header .ensures) _ _ (c .before .before .before .before .before .before .before .before .before .before .before .before .before .before .before .words .given .1) _ (c .before .before .before .before .before .before .before .before .before .before .before .before .before .new .ensures) _ (c .before .before .before .before .before .before .before .before .before .before .before .set .given .1) (c .before .before .before .before .before .before .before .before .before .if1 .left) _ (c .before .before .before .before .before .before .before .before .check-length .ensures) (c .before .before .before .before .before .before .enum-told3 .given .1) _ (c .before .before .before .before .before .lent-enough .ensures) (not-false _ (c .before .before .before .before .if2 .left)) _ (c .before .before .before .check-runs .ensures) _ (c .before .index .given .1)
+
+enum-told-5 : tie.Need-enum-told-5
+enum-told-5 c = search needs
+
+assign-file-requires : tie.Need-assign-file-requires
+assign-file-requires c κs = search needs
+
+cast-t21 : tie.Need-cast-t21
+cast-t21 c = search needs
+
+same-length : tie.Need-same-length
+same-length c = search needs
+
+returns-7 : tie.Need-returns-7
+returns-7 c =
+    open-done _ _ _ _ _ (c .before .before .before .before .before .before .before .before .before .before .before .before .before .before .before .before .before .before .before .before .read-header .ensures) _ _ (c .before .before .before .before .before .before .before .before .before .before .before .before .before .before .before .before .before .before .words .given .1) _ (c .before .before .before .before .before .before .before .before .before .before .before .before .before .before .before .before .new .ensures) _ (c .before .before .before .before .before .before .before .before .before .before .before .before .before .before .set .given .1) (c .before .before .before .before .before .before .before .before .before .before .before .before .if1 .left) _ (c .before .before .before .before .before .before .before .before .before .before .before .check-length .ensures) (c .before .before .before .before .before .before .before .before .before .enum-told3 .given .1) _ (c .before .before .before .before .before .before .before .before .lent-enough .ensures) (not-false _ (c .before .before .before .before .before .before .before .if2 .left)) _ (c .before .before .before .before .before .before .check-runs .ensures) (c .before .before .before .before .enum-told5 .given .1) _ _ (c .before .before .assign-file .kept .1 .0) (c .before .before .assign-file .ensures)
+
+pub open-spec : {M : Type 1} → statement M
+open-spec =
+    tie.close
+    (tie.spec
+    read-header-requires
+    enum-known-words
+    enum-told
+    returns
+    cast-new
+    mul-new
+    new-requires
+    enum-known-set
+    enum-told-2
+    returns-2
+    cast-if1
+    returns-3
+    check-length-requires
+    enum-told-3
+    enum-told-4
+    returns-4
+    cast-lent-enough
+    lent-enough-requires
+    returns-5
+    check-runs-requires
+    enum-known-index
+    returns-6
+    enum-told-5
+    assign-file-requires
+    cast-t21
+    same-length
+    returns-7)

@@ -1,0 +1,72 @@
+-- `ledger::Ledger::take_back` meets its contract. Assumes nothing.
+use mathlib.Core.Path.{sym, _∙_}
+use native.Mathlib.Omega.{arith}
+use Rattle.ledger.proofs.Refusals.{lent-accepted}
+use Rattle.ledger.proofs.Backing.{last-read, last-absent, back-refused, back-none, back-room, taken-back}
+use borrow.Author.Needs.{needs}
+use Rattle.ledger.proofs.Ledger.take_back.Statement.{statement}
+use Rattle.ledger.proofs.Ledger.take_back.Tie as tie
+
+refusal-requires : tie.Need-refusal-requires
+refusal-requires c κs = search needs
+
+returns : tie.Need-returns
+returns c = back-refused _ _ _ _ (c .before .refusal .ensures) (c .if1 .taken)
+
+last-call-requires : tie.Need-last-call-requires
+last-call-requires c κs =
+    let a = lent-accepted _ _ _ (sym (c .before .refusal .ensures) ∙ c .if1 .left) in
+    omega (arith, a .used-most, a .journal-long)
+
+enum-known-runs : tie.Need-enum-known-runs
+enum-known-runs c = search needs
+
+enum-told : tie.Need-enum-told
+enum-told c = search needs
+
+returns-2 : tie.Need-returns-2
+returns-2 c =
+    back-none _ _ _ (sym (c .before .before .before .before .refusal .ensures) ∙ c .before .before .before .if1 .left) (last-absent _ _ _ (c .before .before .last-call .ensures) (c .enum-told .given .1))
+
+mul-first : tie.Need-mul-first
+mul-first c =
+    let a = lent-accepted _ _ _ (sym (c .before .before .before .before .before .before .refusal .ensures) ∙ c .before .before .before .before .before .if1 .left) in
+    let r = last-read _ _ _ _ _ (c .before .before .before .before .last-call .ensures) (c .before .before .runs .given .1) in
+    omega (arith, r .fits, a .used-most, a .journal-most)
+
+add-first : tie.Need-add-first
+add-first c =
+    let a = lent-accepted _ _ _ (sym (c .before .before .before .before .before .before .refusal .ensures) ∙ c .before .before .before .before .before .if1 .left) in
+    let r = last-read _ _ _ _ _ (c .before .before .before .before .last-call .ensures) (c .before .before .runs .given .1) in
+    omega (arith, r .fits, a .used-most, a .journal-most)
+
+sub-first : tie.Need-sub-first
+sub-first c = last-read _ _ _ _ _ (c .before .before .before .before .last-call .ensures) (c .before .before .runs .given .1) .fits
+
+assign-runs-requires : tie.Need-assign-runs-requires
+assign-runs-requires c κs =
+    back-room _ (c .before .before .before .before .before .before .before .before .before .before .args .storage .now) _ _ _ (sym (c .before .before .before .before .before .before .before .refusal .ensures) ∙ c .before .before .before .before .before .before .if1 .left) (last-read _ _ _ _ _ (c .before .before .before .before .before .last-call .ensures) (c .before .before .before .runs .given .1))
+
+same-length : tie.Need-same-length
+same-length c = search needs
+
+returns-3 : tie.Need-returns-3
+returns-3 c =
+    taken-back _ _ _ _ _ _ _ _ (sym (c .before .before .before .before .before .before .before .before .before .before .before .refusal .ensures) ∙ c .before .before .before .before .before .before .before .before .before .before .if1 .left) (last-read _ _ _ _ _ (c .before .before .before .before .before .before .before .before .before .last-call .ensures) (c .before .before .before .before .before .before .before .runs .given .1)) (c .before .before .before .assign-runs .kept .1 .0) (c .before .before .before .assign-runs .ensures)
+
+pub take-back-spec : {M : Type 1} → statement M
+take-back-spec =
+    tie.close
+    (tie.spec
+    refusal-requires
+    returns
+    last-call-requires
+    enum-known-runs
+    enum-told
+    returns-2
+    mul-first
+    add-first
+    sub-first
+    assign-runs-requires
+    same-length
+    returns-3)

@@ -1,0 +1,317 @@
+-- The returns of `new` and `open`: what each gives, from what the code has there. Assumes nothing.
+use mathlib.Core.Path.{_≡_, refl, sym, ap, _∙_, subst}
+use mathlib.Core.Bool.{Bool, true, false, not, cond, false≢true}
+use mathlib.Core.List.{List, [], _∷_}
+use Prim.Native.Nat.{ℕ, _*_, _/_, _%_, _≤_, _<_}
+use native.Mathlib.Omega.{arith}
+use borrow.Author.Tests.{le-leb, lt-leb, leb-true, lt-ltb, le-ltb}
+use lib.Dec.{eqb, leb}
+use lib.ListN.{length}
+use Rattle.positions.proofs.Bools.{and-left, and-right}
+use Rattle.positions.specs.Positions.{Positions, none}
+use Rattle.positions.specs.Runs.{Ascending}
+use Rattle.positions.proofs.Counts.{count-none}
+use Rattle.positions.proofs.Runs.{covered-above}
+use Rattle.range_bitset.specs.Layout.{allowed, needed}
+use Rattle.range_bitset.specs.Represents.{Represents}
+use Rattle.range_bitset.specs.Answers.{allowedCapacity, goodHead, storageRefusal}
+use Rattle.range_bitset.specs.Entries.{newOf as setNew}
+use Rattle.range_bitset.specs.declared.RangeBitset.{RangeBitset}
+use Rattle.range_bitset.specs.declared.Made.{Made}
+use Rattle.range_bitset.specs.declared.Made.the-variants as made
+use Rattle.range_bitset.proofs.Heads.{allowed-bounds}
+use Rattle.ledger.specs.Entries.{lentEnough, newOf, refusalOf, openRefusal, OpenEnsures}
+use Rattle.ledger.specs.Machine.{openedWith, setOf, used}
+use Rattle.ledger.specs.Memory.{memory, Holds}
+use Rattle.ledger.specs.Inner.{Within, Reassigns, fileRuns, OpensRuns}
+use Rattle.ledger.specs.declared.Opened.{Opened}
+use Rattle.ledger.proofs.Machines.{kept-opened}
+use Rattle.ledger.proofs.Refusals.{accepted-lent, good-again, represented-good, accepted-storage}
+use Rattle.ledger.proofs.Reassigning.{ascending-within, ascending-any}
+use Rattle.saved_list.specs.Format.{savedWords, savedCount, savedCapacity, savedRuns, savedPositions, Headed, Whole, headed, whole, firstBadRun}
+use Rattle.saved_list.specs.Answers.{refuses, headerAnswer, headerOf, lengthAnswer, lengthOf, runsAnswer, runsOf}
+use Rattle.saved_list.specs.declared.Header.{Header}
+use Rattle.saved_list.specs.declared.Header.the-variants.{Fields, BadHeader}
+use Rattle.saved_list.specs.declared.LengthCheck.{LengthCheck}
+use Rattle.saved_list.specs.declared.LengthCheck.the-variants.{GoodLength, BadLength}
+use Rattle.saved_list.specs.declared.RunCheck.{RunCheck}
+use Rattle.saved_list.specs.declared.RunCheck.the-variants.{AllGood, BadRun}
+use Rattle.saved_list.proofs.Bytes.{headed-yes, yes-headed, whole-yes, yes-whole, whole-held}
+use Rattle.saved_list.proofs.Lists.{runs-length, all-assigned}
+use Rattle.saved_list.proofs.Opening.{HeaderRead, fields-read, header-refused, length-whole, length-refused, FirstBad, runs-ascending, runs-refused, ascending-count}
+use Rattle.ledger.specs.declared.Ledger.{Ledger}
+use Rattle.ledger.specs.declared.Opened.the-variants as opened
+
+-- ---- the set's head
+
+-- a fresh set's head
+abbrev pub freshHead : ℕ → RangeBitset
+freshHead W = record { words = W; len = 0; allocated = false }
+
+module _ (capacity : ℕ) (r : Made) (e : r ≡ setNew capacity) where
+  pub set-declined : (k : ℕ) → r ≡ made.Refused k → allowedCapacity capacity ≡ false
+  unfolding setNew
+  set-declined k q = go (allowedCapacity capacity) refl e
+    where
+      go : (b : Bool) → allowedCapacity capacity ≡ b → r ≡ cond b (made.Head (freshHead (capacity / 64))) (made.Refused 1)
+          → allowedCapacity capacity ≡ false
+      go false x y = x
+      go true x y = absurd (let z : _≡_ {A = ℕ} 0 1 = cc in omega arith)
+
+  pub set-made : (h : RangeBitset) → r ≡ made.Head h → (allowedCapacity capacity ≡ true) × (h ≡ freshHead (capacity / 64))
+  unfolding setNew
+  set-made h q = go (allowedCapacity capacity) refl e
+    where
+      go : (b : Bool) → allowedCapacity capacity ≡ b → r ≡ cond b (made.Head (freshHead (capacity / 64))) (made.Refused 1)
+          → (allowedCapacity capacity ≡ true) × (h ≡ freshHead (capacity / 64))
+      go false x y = absurd (let z : _≡_ {A = ℕ} 0 1 = cc in omega arith)
+      go true x y = (x, cc)
+
+  pub set-words : (h : RangeBitset) → r ≡ made.Head h → h .words ≤ 4096
+  unfolding allowedCapacity
+  set-words h q =
+      let p = set-made h q in
+      omega (arith, ap (λ (x : RangeBitset). x .words) (p .1), allowed-bounds (capacity / 64) (and-right (eqb (capacity % 64) 0) (allowed (capacity / 64)) (p .0)) .1)
+
+-- ---- `new`
+
+module _ (capacity j n k : ℕ) where
+  pub new-capacity : allowedCapacity capacity ≡ false → opened.Refused 1 ≡ newOf capacity j n k
+  unfolding newOf
+  new-capacity e = rw e
+
+  pub new-journal : allowedCapacity capacity ≡ true → 16384 < j → opened.Refused 1 ≡ newOf capacity j n k
+  unfolding newOf
+  new-journal e l = rw (e, lt-leb j 16384 l)
+
+  pub new-lent : (h : RangeBitset) (b : Bool) → (allowedCapacity capacity ≡ true) × (h ≡ freshHead (capacity / 64)) → j ≤ 16384
+      → b ≡ lentEnough (h .words) j n k
+      → cond b (opened.Head (record { set = h; journal = j; used = 0 })) (opened.Refused 3) ≡ newOf capacity j n k
+  unfolding newOf
+  new-lent h b e l q = rw (q, e .1, e .0, le-leb j 16384 l)
+
+-- ---- `open`: the refusals
+
+no-list : (x : ℕ) (xs : List ℕ) → x ∷ xs ≡ [] → ⊥
+no-list x xs e = let z : _≡_ {A = ℕ} 0 1 = cc in omega arith
+
+-- a refused call leaves the storage as it is
+pub open-declined : (file : List ℕ) (j : ℕ) (st lent : List ℕ) (r : Opened) (x : ℕ) (xs : List ℕ) → refusalOf r ≡ x ∷ xs
+    → x ∷ xs ≡ openRefusal file j (length st) (length lent) → OpenEnsures file j st lent r st
+open-declined file j st lent r x xs p e =
+    record {
+      refuses = p ∙ e;
+      unchanged = λ w. refl;
+      storage-kept = refl;
+      holds = λ h q. absurd (no-list x xs (sym p ∙ ap refusalOf q));
+      flag = λ h q. absurd (no-list x xs (sym p ∙ ap refusalOf q));
+    }
+
+-- the tests that a file passes in turn
+module _ (file : List ℕ) where
+  pub header-bad : refuses 7 [] ≡ headerOf file → headed file ≡ false
+  header-bad e = go (headed file) refl
+    where
+      go : (b : Bool) → headed file ≡ b → b ≡ false
+      go true x = absurd (header-refused file e (headed-yes file x))
+      go false x = refl
+
+  pub length-bad : refuses 7 [] ≡ lengthOf file → whole file ≡ false
+  length-bad e = go (whole file) refl
+    where
+      go : (b : Bool) → whole file ≡ b → b ≡ false
+      go true x = absurd (length-refused file e (whole-yes file x))
+      go false x = refl
+
+module _ (file : List ℕ) (j n k : ℕ) where
+  pub refuse-header : headed file ≡ false → 7 ∷ [] ≡ openRefusal file j n k
+  unfolding openRefusal
+  refuse-header e = rw e
+
+  module _ (h : Headed file) where
+    pub refuse-capacity : allowedCapacity (savedCapacity file) ≡ false → 1 ∷ [] ≡ openRefusal file j n k
+    unfolding openRefusal
+    refuse-capacity e = rw (yes-headed file h, e)
+
+    module _ (a : allowedCapacity (savedCapacity file) ≡ true) where
+      pub refuse-journal : 16384 < j → 1 ∷ [] ≡ openRefusal file j n k
+      unfolding openRefusal
+      refuse-journal l = rw (yes-headed file h, a, lt-leb j 16384 l)
+
+      module _ (l : j ≤ 16384) where
+        pub refuse-length : whole file ≡ false → 7 ∷ [] ≡ openRefusal file j n k
+        unfolding openRefusal
+        refuse-length e = rw (yes-headed file h, a, le-leb j 16384 l, e)
+
+        module _ (w : Whole file) where
+          pub refuse-lent : lentEnough (savedWords file) j n k ≡ false → 3 ∷ [] ≡ openRefusal file j n k
+          unfolding openRefusal
+          refuse-lent e = rw (yes-headed file h, a, le-leb j 16384 l, yes-whole file w, e)
+
+          module _ (e : lentEnough (savedWords file) j n k ≡ true) where
+            pub refuse-run : (i : ℕ) → FirstBad file i → 8 ∷ i ∷ [] ≡ openRefusal file j n k
+            unfolding openRefusal
+            refuse-run i b =
+                rw (yes-headed file h, a, le-leb j 16384 l, yes-whole file w, e, b .first, lt-ltb i (savedCount file) (b .below))
+
+            pub refuse-none : Ascending 0 (savedCapacity file) (savedRuns file) → [] ≡ openRefusal file j n k
+            unfolding openRefusal
+            refuse-none c =
+                rw (yes-headed file h, a, le-leb j 16384 l, yes-whole file w, e, le-ltb (firstBadRun file) (savedCount file) (omega (arith, ascending-count file c)))
+
+-- ---- `open`: accepted
+
+pub fresh-represents : (W : ℕ) (st : List ℕ) → Represents (freshHead W) st none
+fresh-represents W st =
+    record {
+      fresh = λ e i l. refl;
+      begun = λ e. absurd (false≢true e);
+      counted = sym (count-none none 0 (64 * W) (λ i p q. refl));
+    }
+
+fresh-good : (W : ℕ) → allowedCapacity (64 * W) ≡ true → goodHead (freshHead W) ≡ true
+unfolding allowedCapacity goodHead
+fresh-good W a =
+    let p : 64 * W / 64 ≡ W = omega arith in
+    let q : allowed W ≡ true = rw p at (and-right (eqb (64 * W % 64) 0) (allowed (64 * W / 64)) a) in
+    rw (q, le-leb 0 (64 * W) (omega arith))
+
+lent-both : (W j n k : ℕ) → lentEnough W j n k ≡ true → (needed W ≤ n) × (j ≤ k)
+unfolding lentEnough
+lent-both W j n k e = (leb-true _ _ (and-left (leb (needed W) n) (leb j k) e), leb-true _ _ (and-right (leb (needed W) n) (leb j k) e))
+
+-- the head that the set's `new` gives for the file's capacity
+pub file-head : (capacity : ℕ) (W : ℕ) (h : RangeBitset) → capacity ≡ 64 * W → h ≡ freshHead (capacity / 64) → h ≡ freshHead W
+file-head capacity W h e q = let p : capacity / 64 ≡ W = omega arith in q ∙ ap freshHead p
+
+module _ (file : List ℕ) (j : ℕ) (st lent : List ℕ) (h : Headed file) (a : allowedCapacity (savedCapacity file) ≡ true) (l : j ≤ 16384) (w : Whole file)
+    (e : lentEnough (savedWords file) j (length st) (length lent) ≡ true) (c : Ascending 0 (savedCapacity file) (savedRuns file))
+    (h′ : RangeBitset) (st′ : List ℕ) (long : length st′ ≡ length st)
+    (o : OpensRuns (freshHead (savedWords file)) st file (savedCount file) h′ st′) where
+  good : goodHead (freshHead (savedWords file)) ≡ true
+  good = fresh-good (savedWords file) a
+
+  ok : storageRefusal (freshHead (savedWords file)) (length st) ≡ 0
+  ok = accepted-storage (freshHead (savedWords file)) (length st) good (lent-both (savedWords file) j (length st) (length lent) e .0)
+
+  in-file : Within (savedCapacity file) (fileRuns file (savedCount file))
+  unfolding savedRuns
+  in-file = ascending-within 0 (savedCapacity file) (savedCapacity file) (savedRuns file) (omega arith) c
+
+  runs-set : Reassigns (freshHead (savedWords file)) st (fileRuns file (savedCount file)) true h′ st′
+  runs-set = o .reassigns (omega (arith, whole-held file w))
+
+  holds-file : Represents h′ st′ (savedPositions file)
+  unfolding savedRuns
+  holds-file =
+      subst (λ (x : Positions). Represents h′ st′ x) (all-assigned file)
+      (runs-set .represents ok none (fresh-represents (savedWords file) st) in-file)
+
+  begun-file : h′ .allocated ≡ not (eqb (savedCount file) 0)
+  unfolding savedRuns
+  begun-file =
+      runs-set .flag ok none (fresh-represents (savedWords file) st) in-file
+      ∙ ascending-any 0 (savedCapacity file) (savedRuns file) c
+      ∙ ap (λ (x : ℕ). not (eqb x 0)) (runs-length file 0 (savedCount file))
+
+  abbrev pub openedHead : Ledger
+  openedHead = record { set = h′; journal = j; used = 0 }
+
+  holds-all : Holds (memory openedHead st′ lent) (openedWith (savedCapacity file) j (savedPositions file))
+  unfolding setOf used savedPositions
+  holds-all =
+      record {
+        kept = kept-opened (savedCapacity file) j (savedPositions file) (λ i u. covered-above 0 (savedCapacity file) (savedRuns file) c i u);
+        lent =
+            accepted-lent openedHead (length st′) (length lent)
+            (record {
+              good = good-again openedHead (represented-good (freshHead (savedWords file)) h′ st′ (savedPositions file) good (o .same-words) holds-file) l (omega arith);
+              journal-most = l;
+              used-most = omega arith;
+              long = rw (o .same-words, long) (lent-both (savedWords file) j (length st) (length lent) e .0);
+              journal-long = lent-both (savedWords file) j (length st) (length lent) e .1;
+            });
+        capacity = ap (λ (x : ℕ). 64 * x) (o .same-words);
+        journal-length = refl;
+        in-use = refl;
+        set = holds-file;
+        journal = refl;
+      }
+
+  pub opened-file : OpenEnsures file j st lent (opened.Head openedHead) st′
+  opened-file =
+      record {
+        refuses = refuse-none file j (length st) (length lent) h a l w e c;
+        unchanged = λ z. absurd (z refl);
+        storage-kept = o .kept;
+        holds = λ x q. subst (λ (y : Ledger). Holds (memory y st′ lent) (openedWith (savedCapacity file) j (savedPositions file))) (same x q) holds-all;
+        flag = λ x q. subst (λ (y : Ledger). y .set .allocated ≡ not (eqb (savedCount file) 0)) (same x q) begun-file;
+      }
+    where
+      same : (x : Ledger) → opened.Head openedHead ≡ opened.Head x → openedHead ≡ x
+      same x q = cc
+
+-- ---- the returns of `open`, from the answers that it has got by then
+
+module _ (file : List ℕ) (j : ℕ) (st lent : List ℕ) (header : Header) (header-is : headerAnswer header ≡ headerOf file) where
+  pub open-header : header ≡ BadHeader → OpenEnsures file j st lent (opened.Refused 7) st
+  open-header q =
+      open-declined file j st lent (opened.Refused 7) 7 [] refl
+      (refuse-header file j (length st) (length lent) (header-bad file (sym (ap headerAnswer q) ∙ header-is)))
+
+  module _ (W count : ℕ) (fields : header ≡ Fields W count) (made-set : Made) (made-is : made-set ≡ setNew (64 * W)) where
+    pub read : HeaderRead file W count
+    read = fields-read file W count (sym (ap headerAnswer fields) ∙ header-is)
+
+    pub open-capacity : (k : ℕ) → made-set ≡ made.Refused k → OpenEnsures file j st lent (opened.Refused 1) st
+    open-capacity k q =
+        open-declined file j st lent (opened.Refused 1) 1 [] refl
+        (refuse-capacity file j (length st) (length lent) (read .headed) (rw (read .words-read) at (set-declined (64 * W) made-set made-is k q)))
+
+    module _ (set : RangeBitset) (set-is : made-set ≡ made.Head set) where
+      pub open-words : W ≤ 4096
+      open-words =
+          omega (arith, set-words (64 * W) made-set made-is set set-is, ap (λ (x : RangeBitset). x .words) (set-made (64 * W) made-set made-is set set-is .1))
+
+      allowed-file : allowedCapacity (savedCapacity file) ≡ true
+      allowed-file = rw (read .words-read) at (set-made (64 * W) made-set made-is set set-is .0)
+
+      fresh-set : set ≡ freshHead (savedWords file)
+      fresh-set = file-head (64 * W) (savedWords file) set (rw (read .words-read)) (set-made (64 * W) made-set made-is set set-is .1)
+
+      pub open-journal : 16384 < j → OpenEnsures file j st lent (opened.Refused 1) st
+      open-journal l =
+          open-declined file j st lent (opened.Refused 1) 1 [] refl
+          (refuse-journal file j (length st) (length lent) (read .headed) allowed-file l)
+
+      module _ (l : j ≤ 16384) (long : LengthCheck) (long-is : lengthAnswer long ≡ lengthOf file) where
+        pub open-length : long ≡ BadLength → OpenEnsures file j st lent (opened.Refused 7) st
+        open-length q =
+            open-declined file j st lent (opened.Refused 7) 7 [] refl
+            (refuse-length file j (length st) (length lent) (read .headed) allowed-file l (length-bad file (sym (ap lengthAnswer q) ∙ long-is)))
+
+        module _ (good : long ≡ GoodLength) (b : Bool) (enough : b ≡ lentEnough W j (length st) (length lent)) where
+          whole-file : Whole file
+          whole-file = length-whole file (sym (ap lengthAnswer good) ∙ long-is)
+
+          enough-file : lentEnough (savedWords file) j (length st) (length lent) ≡ b
+          enough-file = sym (rw (read .words-read) at enough)
+
+          pub open-lent : b ≡ false → OpenEnsures file j st lent (opened.Refused 3) st
+          open-lent q =
+              open-declined file j st lent (opened.Refused 3) 3 [] refl
+              (refuse-lent file j (length st) (length lent) (read .headed) allowed-file l whole-file (enough-file ∙ q))
+
+          module _ (yes : b ≡ true) (checked : RunCheck) (checked-is : runsAnswer checked ≡ runsOf file) where
+            pub open-run : (i : ℕ) → checked ≡ BadRun i → OpenEnsures file j st lent (opened.BadRun i) st
+            open-run i q =
+                open-declined file j st lent (opened.BadRun i) 8 (i ∷ []) refl
+                (refuse-run file j (length st) (length lent) (read .headed) allowed-file l whole-file (enough-file ∙ yes) i
+                (runs-refused file whole-file i (sym (ap runsAnswer q) ∙ checked-is)))
+
+            pub open-done : checked ≡ AllGood → (h′ : RangeBitset) (st′ : List ℕ) → length st′ ≡ length st → OpensRuns set st file count h′ st′
+                → OpenEnsures file j st lent (opened.Head (record { set = h′; journal = j; used = 0 })) st′
+            open-done q h′ st′ same o =
+                opened-file file j st lent (read .headed) allowed-file l whole-file (enough-file ∙ yes)
+                (runs-ascending file whole-file (sym (ap runsAnswer q) ∙ checked-is)) h′ st′ same
+                (rw (fresh-set, read .count-read) at o)

@@ -1,0 +1,227 @@
+-- Laws for marking and clearing as calls: one for each return of `assign`, with the machine's step there. Assumes nothing.
+use mathlib.Core.Path.{_≡_, refl, sym, ap, _∙_}
+use mathlib.Core.Logic.{inl, inr}
+use mathlib.Core.Bool.{Bool, true}
+use mathlib.Core.List.{List}
+use Prim.Native.Nat.{ℕ, _+_, _*_, _-_, _/_, _≤_, _<_}
+use native.Mathlib.Omega.{arith}
+use borrow.Author.Tests.{le-leb, lt-leb, ne-eqb}
+use lib.Dec.{leb}
+use lib.ListN.{length, take}
+use Rattle.positions.specs.Positions.{Positions, assigned}
+use Rattle.positions.specs.Runs.{changedRuns}
+use Rattle.positions.proofs.Bools.{and-left}
+use Rattle.positions.proofs.Counts.{count-le}
+use Rattle.range_bitset.specs.Layout.{allowed}
+use Rattle.range_bitset.specs.Represents.{Represents, capacityOf}
+use Rattle.range_bitset.specs.Answers.{Refusal, ofCounted, goodHead, rangeRefusal}
+use Rattle.range_bitset.specs.Entries.{AssignEnsures}
+use Rattle.range_bitset.specs.declared.RangeBitset.{RangeBitset}
+use Rattle.range_bitset.specs.declared.Assigned.{Assigned}
+use Rattle.range_bitset.specs.declared.Counted.{Counted}
+use Rattle.range_bitset.specs.declared.Counted.the-variants as counted
+use Rattle.ledger.specs.Machine.{Machine, Range, setOf, used, needOf, step, nextOf}
+use Rattle.ledger.specs.Journal.{journalOf}
+use Rattle.ledger.specs.Memory.{Memory, memory, lentRefusal, callRefusal, Holds}
+use Rattle.ledger.specs.Entries.{Called, flagAfter}
+use Rattle.ledger.specs.Inner.{CountsRuns, WritesCall}
+use Rattle.ledger.specs.declared.Ledger.{Ledger}
+use Rattle.ledger.proofs.Machines.{stayed, went, step-outside, step-full, step-range, kept-step, set-after-range, needs-added, journal-added}
+use Rattle.ledger.proofs.Refusals.{LentEnough, lent-accepted, accepted-lent, set-accepts, range-accepts, ledger-set, good-again}
+
+-- a head with another's word count and a population within the capacity is as good
+good-after : (h h′ : RangeBitset) → goodHead h ≡ true → h′ .words ≡ h .words → h′ .len ≤ capacityOf h′ → goodHead h′ ≡ true
+unfolding goodHead
+good-after h h′ g w l = rw (w, and-left (allowed (h .words)) (leb (h .len) (capacityOf h)) g) (le-leb (h′ .len) (64 * h .words) (omega (arith, ap (λ (n : ℕ). 64 * n) w)))
+
+module _ (h : Ledger) (st j : List ℕ) (a e : ℕ) (v : Bool) where
+  -- ---- the refusals of the table
+
+  abbrev before : Memory
+  before = memory h st j
+
+  -- 2 or 3
+  call-lent : (k : ℕ) → k ≡ lentRefusal h (length st) (length j) → (k ≡ 0 → ⊥) → callRefusal (Range a e v) before ≡ k
+  unfolding callRefusal
+  call-lent k p n = rw (← p, ne-eqb k 0 n)
+
+  call-outside : lentRefusal h (length st) (length j) ≡ 0 → capacityOf (h .set) < e → callRefusal (Range a e v) before ≡ 4
+  unfolding callRefusal
+  call-outside p n = rw (p, lt-leb e (capacityOf (h .set)) n)
+
+  call-passes : lentRefusal h (length st) (length j) ≡ 0 → e ≤ capacityOf (h .set) → callRefusal (Range a e v) before ≡ 0
+  unfolding callRefusal
+  call-passes p n = rw (p, le-leb e (capacityOf (h .set)) n)
+
+  -- the set's own calls then pass too
+  accepted : lentRefusal h (length st) (length j) ≡ 0 → e ≤ capacityOf (h .set) → rangeRefusal (h .set) (length st) e ≡ 0
+  accepted p n =
+      let l = lent-accepted h (length st) (length j) p in
+      range-accepts (h .set) (length st) e (set-accepts h (length st) (l .good) (l .long)) n
+
+  -- ---- refused: nothing is changed
+
+  -- the answer and the head as `declined` gives them
+  declined-as : (k : ℕ) (r : Counted) (h′ : Ledger) → r ≡ counted.Refused k → h′ ≡ h → Called (Range a e v) before (Refusal k) before
+      → Called (Range a e v) before (ofCounted r) (memory h′ st j)
+  declined-as k r h′ p q c = rw (p, q) c
+
+  pub not-lent : (k : ℕ) (r : Counted) (h′ : Ledger) → r ≡ counted.Refused k → h′ ≡ h → k ≡ lentRefusal h (length st) (length j) → (k ≡ 0 → ⊥)
+      → Called (Range a e v) before (ofCounted r) (memory h′ st j)
+  not-lent k r h′ p q l n =
+      declined-as k r h′ p q
+      (record {
+        refuses = λ z. ap Refusal (sym (call-lent k l n));
+        only-6 = λ z. absurd (n (sym (call-lent k l n) ∙ z));
+        unchanged = λ z. refl;
+        storage-kept = refl;
+        journal-kept = λ i z. refl;
+        answers = λ m x. absurd (n (l ∙ x .lent));
+        holds = λ m x. absurd (n (l ∙ x .lent));
+        flag = λ m x. refl;
+      })
+
+  pub outside : (r : Counted) (h′ : Ledger) → r ≡ counted.Refused 4 → h′ ≡ h → lentRefusal h (length st) (length j) ≡ 0 → capacityOf (h .set) < e
+      → Called (Range a e v) before (ofCounted r) (memory h′ st j)
+  outside r h′ p q l n =
+      declined-as 4 r h′ p q
+      (record {
+        refuses = λ z. ap Refusal (sym (call-outside l n));
+        only-6 = λ z. absurd (let y : _≡_ {A = ℕ} 4 0 = sym (call-outside l n) ∙ z in omega arith);
+        unchanged = λ z. refl;
+        storage-kept = refl;
+        journal-kept = λ i z. refl;
+        answers = λ m x. rw (stays m x);
+        holds = λ m x. rw (stays m x) x;
+        flag = λ m x. refl;
+      })
+    where
+      stays : (m : Machine) → Holds before m → step m (Range a e v) ≡ stayed m 4
+      stays m x = step-outside m a e v (omega (arith, x .capacity))
+
+  -- more numbers are needed than the journal has left
+  full : (r : Counted) (h′ : Ledger) → r ≡ counted.Refused 6 → h′ ≡ h → lentRefusal h (length st) (length j) ≡ 0 → e ≤ capacityOf (h .set)
+      → ((s : Positions) → Represents (h .set) st s → h .journal - h .used < needOf s a e v)
+      → Called (Range a e v) before (ofCounted r) (memory h′ st j)
+  full r h′ p q l n more =
+      declined-as 6 r h′ p q
+      (record {
+        refuses = λ z. absurd (z (call-passes l n));
+        only-6 = λ z. inr (refl, refl);
+        unchanged = λ z. refl;
+        storage-kept = refl;
+        journal-kept = λ i z. refl;
+        answers = λ m x. rw (stays m x);
+        holds = λ m x. rw (stays m x) x;
+        flag = λ m x. refl;
+      })
+    where
+      stays : (m : Machine) → Holds before m → step m (Range a e v) ≡ stayed m 6
+      stays m x = step-full m a e v (omega (arith, x .capacity)) (omega (arith, x .journal-length, x .in-use, more (setOf m) (x .set)))
+
+  -- none is left
+  pub none-left : (r : Counted) (h′ : Ledger) → r ≡ counted.Refused 6 → h′ ≡ h → lentRefusal h (length st) (length j) ≡ 0 → e ≤ capacityOf (h .set)
+      → h .used ≡ h .journal → Called (Range a e v) before (ofCounted r) (memory h′ st j)
+  unfolding needOf
+  none-left r h′ p q l n o = full r h′ p q l n (λ s x. omega arith)
+
+  -- the runs counted up to one more than fit are more than fit
+  pub too-many : (runs most : ℕ) (r : Counted) (h′ : Ledger) → r ≡ counted.Refused 6 → h′ ≡ h → lentRefusal h (length st) (length j) ≡ 0
+      → e ≤ capacityOf (h .set) → most ≡ (h .journal - h .used - 1) / 2 → CountsRuns (h .set) st a e v (most + 1) runs → most < runs
+      → Called (Range a e v) before (ofCounted r) (memory h′ st j)
+  unfolding needOf
+  too-many runs most r h′ p q l n o c d = full r h′ p q l n (λ s x. omega (arith, c .counted (accepted l n) s x))
+
+  -- ---- done: the runs are recorded, then the range is given its value
+
+  -- the head afterwards
+  abbrev pub moved : RangeBitset → ℕ → Ledger
+  moved set runs = record { set = set; journal = h .journal; used = h .used + (2 * runs + 1) }
+
+  module _ (runs most : ℕ) (j′ st′ : List ℕ) (r : Assigned) (lent : lentRefusal h (length st) (length j) ≡ 0)
+      (end-within : e ≤ capacityOf (h .set)) (some : h .used ≡ h .journal → ⊥) (most-is : most ≡ (h .journal - h .used - 1) / 2)
+      (counts : CountsRuns (h .set) st a e v (most + 1) runs) (fit : runs ≤ most) (writes : WritesCall (h .set) st a e v (h .used) runs j j′)
+      (same-journal : length j′ ≡ length j) (changes : AssignEnsures (h .set) st a e v r st′) (same-storage : length st′ ≡ length st) where
+    enough : LentEnough h (length st) (length j)
+    enough = lent-accepted h (length st) (length j) lent
+
+    passes : rangeRefusal (h .set) (length st) e ≡ 0
+    passes = accepted lent end-within
+
+    room : h .used + (2 * runs + 1) ≤ h .journal
+    room = omega (arith, enough .used-most, some)
+
+    -- every run was counted, so that the numbers written are those needed
+    all-counted : (s : Positions) → Represents (h .set) st s → runs ≡ length (changedRuns s a e v)
+    all-counted s x = omega (arith, counts .counted passes s x)
+
+    need-is : (s : Positions) → Represents (h .set) st s → 2 * runs + 1 ≡ needOf s a e v
+    unfolding needOf
+    need-is s x = omega (arith, all-counted s x)
+
+    goes : (m : Machine) → Holds before m → step m (Range a e v) ≡ went m (Range a e v)
+    goes m x =
+        step-range m a e v (omega (arith, x .capacity))
+        (omega (arith, x .journal-length, x .in-use, room, need-is (setOf m) (x .set)))
+
+    abbrev next : Memory
+    next = memory (moved (r .head) runs) st′ j′
+
+    set-next : (m : Machine) → Holds before m → Represents (r .head) st′ (assigned (setOf m) a e v)
+    set-next m x = changes .represents passes (setOf m) (x .set)
+
+    lent-next : (m : Machine) → Holds before m → LentEnough (moved (r .head) runs) (length st′) (length j′)
+    lent-next m x =
+        record {
+          good = good-again (moved (r .head) runs) good-set (enough .journal-most) room;
+          journal-most = enough .journal-most;
+          used-most = room;
+          long = rw (same-storage, changes .same-words) (enough .long);
+          journal-long = rw same-journal (enough .journal-long);
+        }
+      where
+        good-set : goodHead (r .head) ≡ true
+        good-set =
+            good-after (h .set) (r .head) (ledger-set h (enough .good)) (changes .same-words)
+            (omega (arith, set-next m x .counted, count-le (assigned (setOf m) a e v) 0 (capacityOf (r .head))))
+
+    in-use-next : (m : Machine) → Holds before m → h .used + (2 * runs + 1) ≡ used (nextOf m (Range a e v))
+    unfolding used
+    in-use-next m x = rw (needs-added (setOf m) (m .standing) a e v) (omega (arith, x .in-use, need-is (setOf m) (x .set)))
+
+    journal-next : (m : Machine) → Holds before m
+        → take (h .used + (2 * runs + 1)) j′ ≡ journalOf (m .opened) (nextOf m (Range a e v) .standing)
+    unfolding setOf
+    journal-next m x =
+        rw (journal-added (m .opened) (m .standing) a e v, ← x .journal)
+        (writes .written-is passes (setOf m) (x .set) (all-counted (setOf m) (x .set)))
+
+    holds-next : (m : Machine) → Holds before m → Holds next (nextOf m (Range a e v))
+    holds-next m x =
+        record {
+          kept = rw (goes m x) at (kept-step m (Range a e v) (x .kept));
+          lent = accepted-lent (moved (r .head) runs) (length st′) (length j′) (lent-next m x);
+          capacity = ap (λ (n : ℕ). 64 * n) (changes .same-words) ∙ x .capacity;
+          journal-length = x .journal-length;
+          in-use = in-use-next m x;
+          set = rw (set-after-range m a e v) (set-next m x);
+          journal = journal-next m x;
+        }
+
+    flag-next : (m : Machine) → Holds before m → r .head .allocated ≡ flagAfter (h .set .allocated) m (Range a e v) (ofCounted (r .answer))
+    flag-next m x =
+        rw (changes .answers passes (setOf m) (x .set))
+        (ap (λ (y : RangeBitset). y .allocated) (changes .head passes (setOf m) (x .set)))
+
+    pub recorded : Called (Range a e v) before (ofCounted (r .answer)) next
+    recorded =
+        record {
+          refuses = λ z. absurd (z (call-passes lent end-within));
+          only-6 = λ z. inl (changes .refuses ∙ passes);
+          unchanged = λ z. absurd (z (changes .refuses ∙ passes));
+          storage-kept = changes .kept;
+          journal-kept = writes .others;
+          answers = λ m x. rw (goes m x) (changes .answers passes (setOf m) (x .set));
+          holds = λ m x. rw (goes m x) (holds-next m x);
+          flag = flag-next;
+        }

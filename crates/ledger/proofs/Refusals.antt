@@ -1,0 +1,209 @@
+-- Laws of the refusals 2 and 3: what an accepted head and lent slices say, and what each test of the code decides. Assumes nothing.
+use mathlib.Core.Path.{_≡_, refl, sym, ap, _∙_}
+use mathlib.Core.Bool.{Bool, true, false, _&&_, cond}
+use mathlib.Core.List.{List}
+use Prim.Native.Nat.{ℕ, _≤_, _<_}
+use native.Mathlib.Omega.{arith}
+use borrow.Author.Tests.{leb-true, le-leb, lt-leb, le-ltb, ltb-false}
+use lib.Dec.{leb, ltb}
+use Rattle.positions.proofs.Bools.{and-left, and-right}
+use Rattle.positions.specs.Positions.{Positions}
+use Rattle.positions.proofs.Counts.{count-le}
+use Rattle.range_bitset.specs.Layout.{allowed, needed}
+use Rattle.range_bitset.specs.Represents.{Represents, capacityOf}
+use Rattle.range_bitset.specs.Answers.{Reply, Number, Nothing, Refusal, ofCounted, goodHead, storageRefusal, rangeRefusal}
+use Rattle.range_bitset.specs.Entries.{ofHead, LenEnsures}
+use Rattle.range_bitset.specs.declared.Counted.{Counted}
+use Rattle.range_bitset.specs.declared.Counted.the-variants as counted
+use Rattle.range_bitset.specs.declared.RangeBitset.{RangeBitset}
+use Rattle.range_bitset.proofs.Heads.{good-bounds}
+use Rattle.ledger.specs.Memory.{goodLedger, longStorage, lentRefusal, wipeRefusal}
+use Rattle.ledger.specs.Entries.{lentEnough}
+use Rattle.ledger.specs.declared.Ledger.{Ledger}
+
+-- ---- what is lent is enough
+
+module _ (W j n k : ℕ) where
+  pub short-storage : n < needed W → false ≡ lentEnough W j n k
+  unfolding lentEnough
+  short-storage h = rw (lt-leb (needed W) n h)
+
+  pub long-storage : needed W ≤ n → leb j k ≡ lentEnough W j n k
+  unfolding lentEnough
+  long-storage h = rw (le-leb (needed W) n h)
+
+-- ---- a good head
+
+is-number : Reply → Bool
+is-number (Number n) = true
+is-number Nothing = false
+is-number (Refusal k) = false
+
+-- what the population's answer says of the set's head
+is-number-of : (h : RangeBitset) (n : ℕ) → is-number (ofHead h n) ≡ goodHead h
+unfolding is-number ofHead
+is-number-of h n = go (goodHead h)
+  where
+    go : (b : Bool) → is-number (cond b (Number n) (Refusal 2)) ≡ b
+    go true = refl
+    go false = refl
+
+pub set-good : (h : RangeBitset) (r : Counted) (n : ℕ) → LenEnsures h r → r ≡ counted.Count n → goodHead h ≡ true
+unfolding is-number
+set-good h r n l e = sym (is-number-of h (h .len)) ∙ ap is-number (sym l ∙ ap ofCounted e)
+
+module _ (h : Ledger) where
+  pub set-refused : (r : Counted) (n : ℕ) → LenEnsures (h .set) r → r ≡ counted.Refused n → false ≡ goodLedger h
+  unfolding goodLedger is-number
+  set-refused r n l e =
+      let q : goodHead (h .set) ≡ false = sym (is-number-of (h .set) (h .set .len)) ∙ ap is-number (sym l ∙ ap ofCounted e) in
+      rw q
+
+  pub journal-above : goodHead (h .set) ≡ true → 16384 < h .journal → false ≡ goodLedger h
+  unfolding goodLedger
+  journal-above g l = rw (g, lt-leb (h .journal) 16384 l)
+
+  pub journal-within : goodHead (h .set) ≡ true → h .journal ≤ 16384 → leb (h .used) (h .journal) ≡ goodLedger h
+  unfolding goodLedger
+  journal-within g l = rw (g, le-leb (h .journal) 16384 l)
+
+  pub ledger-set : goodLedger h ≡ true → goodHead (h .set) ≡ true
+  unfolding goodLedger
+  ledger-set e = and-left (goodHead (h .set)) (leb (h .journal) 16384 && leb (h .used) (h .journal)) e
+
+  pub ledger-words : goodLedger h ≡ true → h .set .words ≤ 4096
+  ledger-words e = good-bounds (h .set) (ledger-set e) .1
+
+  pub ledger-bounds : goodLedger h ≡ true → (h .journal ≤ 16384) × (h .used ≤ h .journal)
+  unfolding goodLedger
+  ledger-bounds e =
+      let q = and-right (goodHead (h .set)) (leb (h .journal) 16384 && leb (h .used) (h .journal)) e in
+      (leb-true _ _ (and-left (leb (h .journal) 16384) (leb (h .used) (h .journal)) q), leb-true _ _ (and-right (leb (h .journal) 16384) (leb (h .used) (h .journal)) q))
+
+  pub good-again : goodHead (h .set) ≡ true → h .journal ≤ 16384 → h .used ≤ h .journal → goodLedger h ≡ true
+  good-again g l u = sym (journal-within g l) ∙ le-leb (h .used) (h .journal) u
+
+  -- ---- 2, then 3
+
+  module _ (n k : ℕ) where
+    pub lent-bad : goodLedger h ≡ false → 2 ≡ lentRefusal h n k
+    unfolding lentRefusal
+    lent-bad g = rw g
+
+    pub lent-good : (b : Bool) → goodLedger h ≡ true → b ≡ lentEnough (h .set .words) (h .journal) n k → cond b 0 3 ≡ lentRefusal h n k
+    unfolding lentRefusal lentEnough longStorage
+    lent-good b g e = rw (g, ← e)
+
+  module _ (n : ℕ) where
+    pub wipe-bad : goodLedger h ≡ false → 2 ≡ wipeRefusal h n
+    unfolding wipeRefusal
+    wipe-bad g = rw g
+
+    pub wipe-good : (b : Bool) → goodLedger h ≡ true → b ≡ lentEnough (h .set .words) 0 n 0 → cond b 0 3 ≡ wipeRefusal h n
+    unfolding wipeRefusal lentEnough longStorage
+    wipe-good b g e = let q : b ≡ leb (needed (h .set .words)) n = e ∙ and-true (leb (needed (h .set .words)) n) in rw (g, ← q)
+      where
+        and-true : (x : Bool) → (x && leb 0 0) ≡ x
+        and-true true = refl
+        and-true false = refl
+
+-- ---- what an accepted head and lent slices say
+
+pub record LentEnough (h : Ledger) (n k : ℕ) : Type 0 where
+  pub good : goodLedger h ≡ true
+  pub journal-most : h .journal ≤ 16384
+  pub used-most : h .used ≤ h .journal
+  pub long : needed (h .set .words) ≤ n
+  pub journal-long : h .journal ≤ k
+
+pub record WipeEnough (h : Ledger) (n : ℕ) : Type 0 where
+  pub good : goodLedger h ≡ true
+  pub long : needed (h .set .words) ≤ n
+
+pub lent-accepted : (h : Ledger) (n k : ℕ) → lentRefusal h n k ≡ 0 → LentEnough h n k
+unfolding lentRefusal longStorage
+lent-accepted h n k e = by (goodLedger h) refl (longStorage h n && leb (h .journal) k) refl e
+  where
+    by : (g : Bool) → goodLedger h ≡ g → (l : Bool) → (longStorage h n && leb (h .journal) k) ≡ l → _≡_ {A = ℕ} (cond g (cond l 0 3) 2) 0
+        → LentEnough h n k
+    by false p l q z = absurd (omega arith)
+    by true p false q z = absurd (omega arith)
+    by true p true q z =
+        let b = ledger-bounds h p in
+        record {
+          good = p;
+          journal-most = b .0;
+          used-most = b .1;
+          long = leb-true _ _ (and-left (longStorage h n) (leb (h .journal) k) q);
+          journal-long = leb-true _ _ (and-right (longStorage h n) (leb (h .journal) k) q);
+        }
+
+pub accepted-lent : (h : Ledger) (n k : ℕ) → LentEnough h n k → lentRefusal h n k ≡ 0
+unfolding lentRefusal longStorage
+accepted-lent h n k a = rw (a .good, le-leb _ _ (a .long), le-leb _ _ (a .journal-long))
+
+pub wipe-accepted : (h : Ledger) (n : ℕ) → wipeRefusal h n ≡ 0 → WipeEnough h n
+unfolding wipeRefusal longStorage
+wipe-accepted h n e = by (goodLedger h) refl (longStorage h n) refl e
+  where
+    by : (g : Bool) → goodLedger h ≡ g → (l : Bool) → longStorage h n ≡ l → _≡_ {A = ℕ} (cond g (cond l 0 3) 2) 0 → WipeEnough h n
+    by false p l q z = absurd (omega arith)
+    by true p false q z = absurd (omega arith)
+    by true p true q z = record { good = p; long = leb-true _ _ q }
+
+-- the set's own calls are then not refused 2 or 3, nor 4 up to the capacity
+pub set-accepts : (h : Ledger) (n : ℕ) → goodLedger h ≡ true → needed (h .set .words) ≤ n → storageRefusal (h .set) n ≡ 0
+unfolding storageRefusal
+set-accepts h n g l = rw (ledger-set h g, le-ltb n (needed (h .set .words)) l)
+
+pub range-accepts : (h : RangeBitset) (n e : ℕ) → storageRefusal h n ≡ 0 → e ≤ capacityOf h → rangeRefusal h n e ≡ 0
+unfolding rangeRefusal
+range-accepts h n e z l = rw (z, le-leb e (capacityOf h) l)
+
+pub lent-wipes : (h : Ledger) (n k : ℕ) → LentEnough h n k → wipeRefusal h n ≡ 0
+unfolding wipeRefusal longStorage
+lent-wipes h n k a = rw (a .good, le-leb _ _ (a .long))
+
+-- ---- the head that a call gives: the same words and journal length, a population that counts a set, U within J
+
+good-same : (h h′ : RangeBitset) → goodHead h ≡ true → h′ .words ≡ h .words → h′ .len ≤ capacityOf h′ → goodHead h′ ≡ true
+unfolding goodHead
+good-same h h′ g w l =
+    let q : allowed (h′ .words) ≡ true = ap allowed w ∙ and-left (allowed (h .words)) (leb (h .len) (capacityOf h)) g in
+    rw (q, le-leb (h′ .len) (capacityOf h′) l)
+
+pub represented-good : (h h′ : RangeBitset) (st : List ℕ) (s : Positions) → goodHead h ≡ true → h′ .words ≡ h .words → Represents h′ st s → goodHead h′ ≡ true
+represented-good h h′ st s g w t = good-same h h′ g w (omega (arith, t .counted, count-le s 0 (capacityOf h′)))
+
+-- the same of a set's head and storage alone
+pub storage-accepted : (h : RangeBitset) (n : ℕ) → storageRefusal h n ≡ 0 → (goodHead h ≡ true) × (needed (h .words) ≤ n)
+unfolding storageRefusal
+storage-accepted h n e = by (goodHead h) refl (ltb n (needed (h .words))) refl e
+  where
+    by : (g : Bool) → goodHead h ≡ g → (l : Bool) → ltb n (needed (h .words)) ≡ l → _≡_ {A = ℕ} (cond g (cond l 3 0) 2) 0
+        → (goodHead h ≡ true) × (needed (h .words) ≤ n)
+    by true p true q z = absurd (omega arith)
+    by false p l q z = absurd (omega arith)
+    by true p false q z = (p, ltb-false _ _ q)
+
+pub accepted-storage : (h : RangeBitset) (n : ℕ) → goodHead h ≡ true → needed (h .words) ≤ n → storageRefusal h n ≡ 0
+unfolding storageRefusal
+accepted-storage h n g l = rw (g, le-ltb n (needed (h .words)) l)
+
+pub storage-again : (h h′ : RangeBitset) (n n′ : ℕ) (st : List ℕ) (s : Positions) → storageRefusal h n ≡ 0 → h′ .words ≡ h .words
+    → Represents h′ st s → n′ ≡ n → storageRefusal h′ n′ ≡ 0
+storage-again h h′ n n′ st s z w t e =
+    let a = storage-accepted h n z in
+    accepted-storage h′ n′ (represented-good h h′ st s (a .0) w t) (rw (w, e) (a .1))
+
+pub lent-again : (h h′ : Ledger) (n k n′ k′ : ℕ) (st : List ℕ) (s : Positions) → LentEnough h n k → h′ .set .words ≡ h .set .words
+    → Represents (h′ .set) st s → h′ .journal ≡ h .journal → h′ .used ≤ h .journal → n′ ≡ n → k′ ≡ k → lentRefusal h′ n′ k′ ≡ 0
+lent-again h h′ n k n′ k′ st s a w t j u en ek =
+    accepted-lent h′ n′ k′
+    (record {
+      good = good-again h′ (represented-good (h .set) (h′ .set) st s (ledger-set h (a .good)) w t) (omega (arith, a .journal-most)) (omega arith);
+      journal-most = omega (arith, a .journal-most);
+      used-most = omega arith;
+      long = rw (w, en) (a .long);
+      journal-long = omega (arith, a .journal-long);
+    })

@@ -1,0 +1,98 @@
+-- `replay::run` meets its contract. The loop's invariant: the calls before `i` are a chain. Assumes nothing.
+use Rattle.ledger.proofs.Replays.{chained-none, chained-more, chained-at}
+use Rattle.ledger.specs.Replay.{encoded, Chained}
+use Rattle.ledger.specs.Memory.{memory}
+use lib.ListN.{length}
+use borrow.Author.Needs.{needs}
+use native.Mathlib.Omega.{arith}
+use Prim.Native.Nat.{_*_, _-_, _≤_, _<_}
+use mathlib.Core.Path.{_≡_}
+use Rattle.ledger.proofs.replay.run.Statement.{statement}
+use Rattle.ledger.proofs.replay.run.Tie as tie
+
+abbrev Inv-loop : tie.InvT-loop
+Inv-loop storage₀ journal₀ kinds starts ends answers₀ calls head₀ i₀ storage journal answers head i =
+    (8 * calls < 18446744073709551616) × (i ≤ calls) × (calls ≤ length kinds) × (calls ≤ length starts) × (calls ≤ length ends) × (calls ≤ length answers)
+    × (length storage ≡ length storage₀) × (length journal ≡ length journal₀)
+    × (length answers ≡ length answers₀)
+    × Chained i (memory head₀ storage₀ journal₀) (encoded kinds starts ends) answers₀ answers (memory head storage journal)
+
+abbrev μ-loop : tie.MeasureT-loop
+μ-loop storage₀ journal₀ kinds starts ends answers₀ calls head₀ i₀ storage journal answers head i = calls - i
+
+loop-holds : tie.Need-loop-holds Inv-loop μ-loop
+loop-holds c =
+    (search needs, search needs, search needs, search needs, search needs, search needs, search needs, search needs, search needs, chained-none _ _ _)
+
+shared-slice-read-one-call : tie.Need-shared-slice-read-one-call Inv-loop μ-loop
+shared-slice-read-one-call c = search needs
+
+mul-one-call : tie.Need-mul-one-call Inv-loop μ-loop
+mul-one-call c = search needs
+
+shared-slice-read-one-call-2 : tie.Need-shared-slice-read-one-call-2 Inv-loop μ-loop
+shared-slice-read-one-call-2 c = search needs
+
+mul-one-call-2 : tie.Need-mul-one-call-2 Inv-loop μ-loop
+mul-one-call-2 c = search needs
+
+shared-slice-read-one-call-3 : tie.Need-shared-slice-read-one-call-3 Inv-loop μ-loop
+shared-slice-read-one-call-3 c = search needs
+
+one-call-requires : tie.Need-one-call-requires Inv-loop μ-loop
+one-call-requires c κs = search needs
+
+code-requires : tie.Need-code-requires Inv-loop μ-loop
+code-requires c κs = search needs
+
+mul-answers : tie.Need-mul-answers Inv-loop μ-loop
+mul-answers c = omega (arith, c .before .before .before .before .before .before .before .before .before .before .before .before .loop .inv .0)
+
+slice-write-answers : tie.Need-slice-write-answers Inv-loop μ-loop
+slice-write-answers c = search needs
+
+add-i : tie.Need-add-i Inv-loop μ-loop
+add-i c = search needs
+
+loop-less : tie.Need-loop-less Inv-loop μ-loop
+loop-less c = search needs
+
+loop-again : tie.Need-loop-again Inv-loop μ-loop
+loop-again c =
+    (c .before .before .before .before .before .before .before .before .before .before .before .before .before .loop .inv .0, search needs, search needs, search needs, search needs, search needs, search needs, search needs, search needs, chained-more _ _ _ _ _ _ _ _ _ (c .before .before .before .before .before .before .before .before .before .before .before .before .before .loop .inv .9) (c .before .before .before .before .before .before .one-call .ensures) (c .before .code .ensures) (search needs))
+
+same-length : tie.Need-same-length Inv-loop μ-loop
+same-length c = search needs
+
+same-length-2 : tie.Need-same-length-2 Inv-loop μ-loop
+same-length-2 c = search needs
+
+same-length-3 : tie.Need-same-length-3 Inv-loop μ-loop
+same-length-3 c = search needs
+
+returns : tie.Need-returns Inv-loop μ-loop
+returns c = chained-at _ _ _ _ _ _ _ (omega arith) (c .before .loop .inv .9)
+
+pub run-spec : {M : Type 1} → statement M
+run-spec =
+    tie.close
+    (tie.spec
+    Inv-loop
+    μ-loop
+    loop-holds
+    shared-slice-read-one-call
+    mul-one-call
+    shared-slice-read-one-call-2
+    mul-one-call-2
+    shared-slice-read-one-call-3
+    one-call-requires
+    code-requires
+    mul-answers
+    slice-write-answers
+    add-i
+    loop-less
+    loop-again
+    same-length
+    same-length-2
+    same-length-3
+    returns)

@@ -1,0 +1,123 @@
+-- 01's starred cases: one table, and one result that computes it over the definitions that the promises cite. Assumes nothing.
+use mathlib.Core.Path.{_≡_, refl}
+use mathlib.Core.Bool.{Bool, true, false, cond}
+use mathlib.Core.List.{List, [], _∷_, map}
+use Prim.Native.Nat.{ℕ, _/_}
+use lib.Count.{ones}
+use lib.Dec.{eqb}
+use Rattle.positions.specs.Positions.{Positions, none, assigned, total, sumOver, countFrom, count, firstFrom, first, changedCount}
+use Rattle.positions.specs.Runs.{runsFrom, runs, changedRuns}
+use Rattle.range_bitset.specs.Layout.{allowed, needed}
+use Rattle.range_bitset.specs.Answers.{Reply, Number, Nothing, Refusal, refused, ofFound, allowedCapacity, goodHead, storageRefusal, rangeRefusal}
+use Rattle.ledger.specs.Machine.{Machine, fresh, Call, Range, Back, setOf, population, needOf, made, used, rangeVerdict, step}
+use Rattle.ledger.specs.Entries.{ofAnswer, lentEnough, newOf}
+use Rattle.ledger.specs.declared.Opened.{Opened}
+use Rattle.ledger.specs.declared.Opened.the-variants as opened
+
+-- ---- the set's calls, over a head of the capacity whose storage is just long enough
+
+-- the table's refusal, or else the reply
+unfoldable pub within : ℕ → Positions → ℕ → Reply → Reply
+within capacity s e r = cond (eqb k 0) r (Refusal k)
+  where
+    k : ℕ
+    k = rangeRefusal (record { words = capacity / 64; len = count s 0 capacity; allocated = true }) (needed (capacity / 64)) e
+
+abbrev pub searched : ℕ → Positions → Bool → ℕ → ℕ → Reply
+searched capacity s v a e = within capacity s e (ofFound (first s v a e))
+
+pub data SetLine : Type 0 where
+  Assign : ℕ → ℕ → Bool → SetLine
+  Search : Bool → ℕ → ℕ → SetLine
+
+-- a refused call leaves the set as it is
+abbrev pub setReplies : ℕ → Positions → List SetLine → List Reply
+setReplies capacity s [] = []
+setReplies capacity s (Assign a e v ∷ ls) =
+    within capacity s e (Number (changedCount s a e v))
+    ∷ setReplies capacity (cond (eqb (refused (within capacity s e (Number 0))) 0) (assigned s a e v) s) ls
+setReplies capacity s (Search v a e ∷ ls) = searched capacity s v a e ∷ setReplies capacity s ls
+
+-- ---- the ledger's
+
+pub data Line : Type 0 where
+  Do : Call → Line
+  Count : ℕ → ℕ → Line
+  Next : Bool → ℕ → ℕ → Line
+  Used : Line
+
+abbrev pub replies : Machine → List Line → List Reply
+replies m [] = []
+replies m (Do c ∷ ls) = ofAnswer (step m c .answer) ∷ replies (step m c .next) ls
+replies m (Count a e ∷ ls) = within (m .capacity) (setOf m) e (Number (count (setOf m) a e)) ∷ replies m ls
+replies m (Next v a e ∷ ls) = searched (m .capacity) (setOf m) v a e ∷ replies m ls
+replies m (Used ∷ ls) = Number (used m) ∷ replies m ls
+
+-- `new` answers 0 or is refused
+abbrev pub ofNew : Opened → Reply
+ofNew (opened.Head h) = Number 0
+ofNew (opened.Refused k) = Refusal k
+ofNew (opened.BadRun i) = Refusal 8
+
+-- ---- the table
+
+pub record Case : Type 0 where
+  pub given : List Reply
+  pub wanted : List Reply
+
+abbrev ofSet : ℕ → List SetLine → List Reply → Case
+ofSet capacity ls rs = record { given = setReplies capacity none ls; wanted = rs }
+
+-- the first reply is that of `new`
+abbrev ofLedger : ℕ → ℕ → List Line → List Reply → Case
+ofLedger capacity j ls rs =
+    record { given = ofNew (newOf capacity j (needed (capacity / 64)) j) ∷ replies (fresh capacity j) ls; wanted = Number 0 ∷ rs }
+
+abbrev mark : ℕ → ℕ → Line
+mark a e = Do (Range a e true)
+
+abbrev clear : ℕ → ℕ → Line
+clear a e = Do (Range a e false)
+
+abbrev pub cases : List Case
+cases =
+    ofSet 64 (Assign 0 64 true ∷ Search false 0 64 ∷ []) (Number 64 ∷ Nothing ∷ [])
+    ∷ ofSet 64 (Search false 63 64 ∷ Search true 63 64 ∷ []) (Number 63 ∷ Nothing ∷ [])
+    ∷ ofSet 128 (Assign 63 65 true ∷ Search true 0 128 ∷ Search false 63 128 ∷ []) (Number 2 ∷ Number 63 ∷ Number 65 ∷ [])
+    ∷ ofSet 64 (Assign 10 20 true ∷ Assign 10 20 true ∷ []) (Number 10 ∷ Number 0 ∷ [])
+    ∷ ofSet 64 (Assign 0 65 true ∷ Assign 500 0 true ∷ []) (Refusal 4 ∷ Number 0 ∷ [])
+    ∷ ofLedger 64 2 (mark 0 1 ∷ []) (Refusal 6 ∷ [])
+    ∷ ofLedger 64 3 (mark 0 1 ∷ []) (Number 1 ∷ [])
+    ∷ ofLedger 64 1 (mark 5 5 ∷ Used ∷ []) (Number 0 ∷ Number 1 ∷ [])
+    ∷ ofLedger 128 20
+    (mark 10 70
+    ∷ clear 20 30
+    ∷ mark 0 128
+    ∷ Next false 0 128
+    ∷ Count 64 128
+    ∷ Do Back
+    ∷ Next true 0 128
+    ∷ Next false 10 128
+    ∷ Count 0 128
+    ∷ Do Back
+    ∷ Do Back
+    ∷ Do Back
+    ∷ [])
+    (Number 60
+    ∷ Number 10
+    ∷ Number 78
+    ∷ Nothing
+    ∷ Number 64
+    ∷ Number 78
+    ∷ Number 10
+    ∷ Number 20
+    ∷ Number 50
+    ∷ Number 10
+    ∷ Number 60
+    ∷ Refusal 5
+    ∷ [])
+    ∷ []
+
+pub cases-right : map (λ (c : Case). c .given) cases ≡ map (λ (c : Case). c .wanted) cases
+unfolding within assigned total sumOver countFrom count firstFrom first changedCount runsFrom runs changedRuns ones allowed allowedCapacity goodHead storageRefusal rangeRefusal setOf population needOf made used rangeVerdict step lentEnough newOf
+cases-right = refl

@@ -1,0 +1,102 @@
+-- The ledger's promises: what new and open give, and the one promise of marking, clearing, take-back and wipe. Assumes nothing.
+use mathlib.Core.Path.{_≡_}
+use mathlib.Core.Logic.{_⊎_}
+use mathlib.Core.Bool.{Bool, true, false, not, _&&_, _||_, cond}
+use mathlib.Core.List.{List, [], _∷_}
+use Prim.Native.Nat.{ℕ, _+_, _*_, _/_, _≤_, _<_}
+use lib.Dec.{eqb, leb, ltb}
+use lib.ListN.{length, getD, drop}
+use Rattle.positions.specs.Positions.{Positions}
+use Rattle.range_bitset.specs.Layout.{needed}
+use Rattle.range_bitset.specs.Answers.{Reply, Number, Nothing, Refusal, refused, allowedCapacity}
+use Rattle.range_bitset.specs.declared.RangeBitset.{RangeBitset}
+use Rattle.saved_list.specs.Format.{savedWords, savedCount, savedCapacity, savedPositions, headed, whole, firstBadRun}
+use Rattle.ledger.specs.Machine.{Machine, Standing, openedWith, Call, Range, Back, Wipe, Answer, Done, Refused, step}
+use Rattle.ledger.specs.Memory.{Memory, memory, callRefusal, Holds}
+use Rattle.ledger.specs.declared.Ledger.{Ledger}
+use Rattle.ledger.specs.declared.Opened.{Opened}
+use Rattle.ledger.specs.declared.Opened.the-variants as opened
+
+-- ---- marking, clearing, take-back and wipe
+
+abbrev pub ofAnswer : Answer → Reply
+ofAnswer (Done n) = Number n
+ofAnswer (Refused k) = Refusal k
+
+-- a marking or a clearing
+abbrev pub ranges : Call → Bool
+ranges (Range a e v) = true
+ranges Back = false
+ranges Wipe = false
+
+-- the last standing call is a clearing that changed positions, so that taking it back sets some
+abbrev pub restores : List Standing → Bool
+restores [] = false
+restores (c ∷ cs) = not (c .value) && ltb 0 (c .changed)
+
+-- 01's flag after a call: an accepted marking over at least one position sets it, every other call keeps it. (Take-back that
+-- sets positions needs it set. From new or open it then is, law `flag-kept` in proofs/Flags; a memory that holds the same
+-- machine with the flag clear gets it set.)
+abbrev pub flagAfter : Bool → Machine → Call → Reply → Bool
+flagAfter x m (Range a e v) (Number n) = x || (v && ltb a e)
+flagAfter x m (Range a e v) Nothing = x
+flagAfter x m (Range a e v) (Refusal k) = x
+flagAfter x m Back (Number n) = x || restores (m .standing)
+flagAfter x m Back Nothing = x
+flagAfter x m Back (Refusal k) = x
+flagAfter x m Wipe r = x
+
+pub record Called (c : Call) (before : Memory) (r : Reply) (next : Memory) : Type 0 where
+  -- on any memory: 2, 3, 4 and 5 exactly as the table has them; 6 is the only other refusal, and only of a marking or clearing
+  pub refuses : (callRefusal c before ≡ 0 → ⊥) → r ≡ Refusal (callRefusal c before)
+  pub only-6 : callRefusal c before ≡ 0 → (refused r ≡ 0) ⊎ ((r ≡ Refusal 6) × (ranges c ≡ true))
+  -- a refused call changes nothing
+  pub unchanged : (refused r ≡ 0 → ⊥) → next ≡ before
+  -- storage past the needed numbers, and journal numbers outside old U to new U, are as they were
+  pub storage-kept : drop (needed (before .head .set .words)) (next .storage) ≡ drop (needed (before .head .set .words)) (before .storage)
+  pub journal-kept : (i : ℕ) → (i < before .head .used) ⊎ (next .head .used ≤ i) → getD (next .journal) i 0 ≡ getD (before .journal) i 0
+  -- on a sound ledger: the machine's answer, so that 6 is for want of numbers alone, and the machine's next state
+  pub answers : (m : Machine) → Holds before m → r ≡ ofAnswer (step m c .answer)
+  pub holds : (m : Machine) → Holds before m → Holds next (step m c .next)
+  pub flag : (m : Machine) → Holds before m → next .head .set .allocated ≡ flagAfter (before .head .set .allocated) m c r
+
+-- ---- new
+
+abbrev pub newHead : ℕ → ℕ → Bool → Ledger
+newHead W j x = record { set = record { words = W; len = 0; allocated = x }; journal = j; used = 0 }
+
+-- what new and open are lent: n storage numbers and k journal numbers for W words and a journal of j
+unfoldable pub lentEnough : ℕ → ℕ → ℕ → ℕ → Bool
+lentEnough W j n k = leb (needed W) n && leb j k
+
+-- 1, then 3, or the head of a fresh ledger: its flag clear and U = 0
+unfoldable pub newOf : ℕ → ℕ → ℕ → ℕ → Opened
+newOf capacity j n k =
+    cond (allowedCapacity capacity && leb j 16384)
+    (cond (lentEnough (capacity / 64) j n k) (opened.Head (newHead (capacity / 64) j false)) (opened.Refused 3)) (opened.Refused 1)
+
+-- ---- open
+
+-- a refusal's number and, for 8, the first bad run's index; none where the call is accepted
+abbrev pub refusalOf : Opened → List ℕ
+refusalOf (opened.Head h) = []
+refusalOf (opened.Refused k) = k ∷ []
+refusalOf (opened.BadRun i) = 8 ∷ i ∷ []
+
+-- 7 but for the length, 1, 7 for the length, 3, 8 with the run's index
+unfoldable pub openRefusal : List ℕ → ℕ → ℕ → ℕ → List ℕ
+openRefusal file j n k =
+    cond (headed file)
+    (cond (allowedCapacity (savedCapacity file) && leb j 16384)
+    (cond (whole file)
+    (cond (lentEnough (savedWords file) j n k)
+    (cond (ltb (firstBadRun file) (savedCount file)) (8 ∷ firstBadRun file ∷ []) []) (3 ∷ [])) (7 ∷ [])) (1 ∷ [])) (7 ∷ [])
+
+-- on any memory: refused exactly so, and then nothing is changed; storage past the needed numbers never is; an accepted
+-- call gives a ledger that holds the file's set and no calls, its flag clear exactly when n = 0
+pub record OpenEnsures (file : List ℕ) (j : ℕ) (st journal : List ℕ) (r : Opened) (st′ : List ℕ) : Type 0 where
+  pub refuses : refusalOf r ≡ openRefusal file j (length st) (length journal)
+  pub unchanged : (refusalOf r ≡ [] → ⊥) → st′ ≡ st
+  pub storage-kept : drop (needed (savedWords file)) st′ ≡ drop (needed (savedWords file)) st
+  pub holds : (h : Ledger) → r ≡ opened.Head h → Holds (memory h st′ journal) (openedWith (savedCapacity file) j (savedPositions file))
+  pub flag : (h : Ledger) → r ≡ opened.Head h → h .set .allocated ≡ not (eqb (savedCount file) 0)

@@ -1,0 +1,58 @@
+-- A ledger's memory, and when it holds a machine's state: 01's sound ledger is one that holds some machine's. Assumes nothing.
+use mathlib.Core.Path.{_≡_}
+use mathlib.Core.Bool.{Bool, _&&_, cond}
+use mathlib.Core.List.{List}
+use Prim.Native.Nat.{ℕ, _+_, _*_}
+use lib.Dec.{eqb, leb, ltb}
+use lib.ListN.{length, take}
+use Rattle.range_bitset.specs.Layout.{needed}
+use Rattle.range_bitset.specs.Represents.{Represents, capacityOf}
+use Rattle.range_bitset.specs.Answers.{goodHead, first-of}
+use Rattle.ledger.specs.Machine.{Machine, setOf, used, Call, Range, Back, Wipe, Kept}
+use Rattle.ledger.specs.Journal.{journalOf}
+use Rattle.ledger.specs.declared.Ledger.{Ledger}
+
+-- the head, and the two lent slices' numbers
+pub record Memory : Type 0 where
+  pub head : Ledger
+  pub storage : List ℕ
+  pub journal : List ℕ
+
+abbrev pub memory : Ledger → List ℕ → List ℕ → Memory
+memory h st j = record { head = h; storage = st; journal = j }
+
+-- ---- the refusals of 01's table, but for 6: 0 where a call passes them
+
+-- 2: the set's head, J above 16,384, or U above J
+unfoldable pub goodLedger : Ledger → Bool
+goodLedger h = goodHead (h .set) && (leb (h .journal) 16384 && leb (h .used) (h .journal))
+
+-- 3: storage shorter than needed, or a journal shorter than J
+unfoldable pub longStorage : Ledger → ℕ → Bool
+longStorage h n = leb (needed (h .set .words)) n
+
+unfoldable pub lentRefusal : Ledger → ℕ → ℕ → ℕ
+lentRefusal h n k = cond (goodLedger h) (cond (longStorage h n && leb (h .journal) k) 0 3) 2
+
+-- wipe is lent no journal
+unfoldable pub wipeRefusal : Ledger → ℕ → ℕ
+wipeRefusal h n = cond (goodLedger h) (cond (longStorage h n) 0 3) 2
+
+-- 4: an end above the capacity (a point p ends at p + 1); 5: take-back with U = 0
+unfoldable pub callRefusal : Call → Memory → ℕ
+callRefusal (Range a e v) x =
+    first-of (lentRefusal (x .head) (length (x .storage)) (length (x .journal))) (cond (leb e (capacityOf (x .head .set))) 0 4)
+callRefusal Back x = first-of (lentRefusal (x .head) (length (x .storage)) (length (x .journal))) (cond (eqb (x .head .used) 0) 5 0)
+callRefusal Wipe x = wipeRefusal (x .head) (length (x .storage))
+
+-- ---- the relation
+
+-- the memory holds the machine's state: the set, and the journal that its standing calls give
+pub record Holds (x : Memory) (m : Machine) : Type 0 where
+  pub kept : Kept m
+  pub lent : lentRefusal (x .head) (length (x .storage)) (length (x .journal)) ≡ 0
+  pub capacity : capacityOf (x .head .set) ≡ m .capacity
+  pub journal-length : x .head .journal ≡ m .journal
+  pub in-use : x .head .used ≡ used m
+  pub set : Represents (x .head .set) (x .storage) (setOf m)
+  pub journal : take (x .head .used) (x .journal) ≡ journalOf (m .opened) (m .standing)

@@ -1,0 +1,88 @@
+-- Demand 3 once more, as the contract of code: a list of calls in lent slices, run from a new or an opened ledger through
+-- the real entries, the answers written into a lent slice. Assumes nothing.
+use mathlib.Core.Path.{_≡_}
+use mathlib.Core.Bool.{true, false, cond}
+use mathlib.Core.List.{List, [], _∷_, _++_, map}
+use Prim.Native.Nat.{ℕ, zero, suc, _+_, min}
+use lib.Dec.{eqb}
+use lib.ListN.{length, getD, take, drop}
+use Rattle.range_bitset.specs.Answers.{Reply, Number, Nothing, Refusal}
+use Rattle.ledger.specs.Machine.{Machine, Call, Range, Back, Wipe, point, after}
+use Rattle.ledger.specs.Memory.{Memory, memory}
+use Rattle.ledger.specs.Entries.{refusalOf}
+use Rattle.ledger.specs.History.{Chain, Agrees}
+use Rattle.ledger.specs.declared.Ledger.{Ledger}
+use Rattle.ledger.specs.declared.Opened.{Opened}
+use Rattle.ledger.specs.declared.Opened.the-variants as opened
+use Rattle.ledger.specs.declared.replay.Replayed.{Replayed}
+use Rattle.ledger.specs.declared.replay.Replayed.the-variants as replayed
+
+-- ---- the calls as numbers: a kind, a start and an end each
+
+pub record Encoded : Type 0 where
+  pub kinds : List ℕ
+  pub starts : List ℕ
+  pub ends : List ℕ
+
+abbrev pub encoded : List ℕ → List ℕ → List ℕ → Encoded
+encoded ks ss es = record { kinds = ks; starts = ss; ends = es }
+
+-- 0 marks start..end and 1 clears it, 2 marks the point start and 3 clears it, 4 takes back, any other kind wipes
+unfoldable pub callOf : ℕ → ℕ → ℕ → Call
+callOf k a e =
+    cond (eqb k 0) (Range a e true)
+    (cond (eqb k 1) (Range a e false) (cond (eqb k 2) (point a true) (cond (eqb k 3) (point a false) (cond (eqb k 4) Back Wipe))))
+
+-- the first n calls
+abbrev pub callsTo : Encoded → ℕ → List Call
+callsTo l zero = []
+callsTo l (suc i) = callsTo l i ++ callOf (getD (l .kinds) i 0) (getD (l .starts) i 0) (getD (l .ends) i 0) ∷ []
+
+-- how many calls there are whose answers fit into so many numbers
+abbrev pub fitting : Encoded → ℕ → ℕ
+fitting l answers = min (min (length (l .kinds)) (length (l .starts))) (min (length (l .ends)) answers)
+
+-- a reply as a number: a count as it is, a refusal above every count; no call answers `Nothing`
+abbrev pub codeOf : Reply → ℕ
+codeOf (Number n) = n
+codeOf Nothing = 4294967296
+codeOf (Refusal k) = 4294967296 + k
+
+-- ---- the promise
+
+-- n calls run from a ledger fed as the machine m: as many as fit, their answers written, those numbers alone, and demand 3
+pub record RanAll (m : Machine) (l : Encoded) (answers : List ℕ) (n : ℕ) (answers′ : List ℕ) (end : Memory) : Type 0 where
+  pub all : n ≡ fitting l (length answers)
+  pub others : drop n answers′ ≡ drop n answers
+  pub replies : List Reply
+  pub written : take n answers′ ≡ map codeOf replies
+  pub agrees : Agrees (after m (callsTo l n)) replies end
+
+-- a refusal's number and, for 8, the first bad run's index; none where new or open is accepted
+abbrev pub refusalIn : Replayed → List ℕ
+refusalIn (replayed.Ran h n) = []
+refusalIn (replayed.Refused k) = k ∷ []
+refusalIn (replayed.BadRun i) = 8 ∷ i ∷ []
+
+-- `refusal` is that of new or open, m the machine fed the same: refused exactly so, and then nothing is changed; or all run
+pub record Replays (refusal : List ℕ) (m : Machine) (l : Encoded) (st journal answers : List ℕ) (r : Replayed)
+    (st′ journal′ answers′ : List ℕ) : Type 0 where
+  pub refuses : refusalIn r ≡ refusal
+  pub unchanged : (refusalIn r ≡ [] → ⊥) → (st′ ≡ st) × (journal′ ≡ journal) × (answers′ ≡ answers)
+  pub ran : (h : Ledger) (n : ℕ) → r ≡ replayed.Ran h n → RanAll m l answers n answers′ (memory h st′ journal′)
+
+-- ---- the inner function's contract: a chain of the entries' promises over the first i calls, with its replies written out
+
+pub record Chained (i : ℕ) (start : Memory) (l : Encoded) (answers answers′ : List ℕ) (end : Memory) : Type 0 where
+  pub others : drop i answers′ ≡ drop i answers
+  pub replies : List Reply
+  pub written : take i answers′ ≡ map codeOf replies
+  pub chain : Chain start (callsTo l i) replies end
+
+-- what follows on new's or open's answer o: its refusal handed on with nothing changed, or as many calls as fit
+pub record Continues (o : Opened) (l : Encoded) (st journal answers : List ℕ) (r : Replayed) (st′ journal′ answers′ : List ℕ) : Type 0 where
+  pub refuses : refusalIn r ≡ refusalOf o
+  pub unchanged : (refusalOf o ≡ [] → ⊥) → (st′ ≡ st) × (journal′ ≡ journal) × (answers′ ≡ answers)
+  pub ran : (h : Ledger) (n : ℕ) → r ≡ replayed.Ran h n
+      → (n ≡ fitting l (length answers)) × ((start : Ledger) → o ≡ opened.Head start
+      → Chained n (memory start st journal) l answers answers′ (memory h st′ journal′))

@@ -1,0 +1,491 @@
+// The ledger: a set with an undo journal. A marking or clearing records the runs that it changes before it changes them, and
+// take-back gives just those runs their old value again. The head goes in and comes back by value; storage and journal are
+// lent with each call. Work is bounded by the ends of the range and the runs changed, never by the capacity.
+// Assumes nothing of its callers: no entry has a `requires`.
+ghost use mathlib.Core.Path.{_≡_};
+ghost use mathlib.Core.Bool.{true, false, not};
+ghost use mathlib.Core.List.{List};
+ghost use Prim.Native.Nat.{ℕ, suc, _+_, _*_, _-_, _/_, _%_, _<_, _≤_};
+ghost use lib.ListN.{length};
+ghost use Rattle.positions.specs.Positions.{one};
+ghost use Rattle.range_bitset.specs.Answers.{ofCounted};
+ghost use Rattle.range_bitset.specs.declared.Counted.the-variants as counted;
+ghost use Rattle.ledger.specs.Machine.{Range, Back, Wipe, point};
+ghost use Rattle.ledger.specs.Memory.{memory, goodLedger, lentRefusal, wipeRefusal, callRefusal};
+ghost use Rattle.ledger.specs.Entries.{Called as CallEnsures, lentEnough, newOf, OpenEnsures};
+ghost use Rattle.ledger.specs.Inner.{Finds, CountsRuns, WritesCall, readRuns, AssignsRuns, OpensRuns, lastOf, placeIn, countIn};
+
+pub mod replay; // replay.rt: a list of calls run through the entries
+
+use range_bitset::Counted;
+use range_bitset::Found;
+use range_bitset::Made;
+use range_bitset::RangeBitset;
+use saved_list::FoundRun;
+use saved_list::Header;
+use saved_list::LengthCheck;
+use saved_list::RunCheck;
+
+// The longest journal.
+const JOURNAL_MOST: u32 = 16384;
+
+// A ledger's head: the set's head, the journal's length J and how many of its numbers are in use, U.
+pub struct Ledger {
+    pub set: RangeBitset,
+    pub journal: u32,
+    pub used: u32,
+}
+
+// What new and open answer. `Refused` has the number of the specification's table; `BadRun` is refusal 8, with the index
+// of the first bad run.
+pub enum Opened {
+    Head(Ledger),
+    Refused(u8),
+    BadRun(usize),
+}
+
+// An answer and the head as it is afterwards: the old one where the call is refused.
+pub struct Called {
+    pub answer: Counted,
+    pub head: Ledger,
+}
+
+// What stands last in the journal: a call's run count and value.
+pub enum Last {
+    Standing(u32, bool),
+    NoCall,
+}
+
+// The changed count of several assignments, and the set's head after them.
+pub struct Reassigned {
+    pub changed: u32,
+    pub head: RangeBitset,
+}
+
+impl Ledger {
+    // A fresh ledger. Nothing is written.
+    pub fn new(capacity: usize, journal: usize, storage: &[u64], lent: &[u32]) -> Opened
+        ensures { λ r. ⌜ r ≡ newOf capacity journal (length (now (storage .entry))) (length (now (lent .entry))) ⌝ }
+    {
+        let Made::Head(set) = RangeBitset::new(capacity) else {
+            return Opened::Refused(1);
+        };
+        if journal > JOURNAL_MOST as usize {
+            return Opened::Refused(1);
+        }
+        if !Self::lent_enough(set.words as usize, journal, storage.len(), lent.len()) {
+            return Opened::Refused(3);
+        }
+        Opened::Head(Ledger {
+            set,
+            journal: journal as u32,
+            used: 0,
+        })
+    }
+
+    // Whether so many storage and journal numbers are enough.
+    fn lent_enough(words: usize, journal: usize, storage_len: usize, journal_len: usize) -> bool
+        requires { ⌜ words ≤ 4096 ⌝ }
+        ensures { λ r. ⌜ r ≡ lentEnough words journal «storage_len» «journal_len» ⌝ }
+    {
+        if storage_len < words + 3 * ((words + 63) / 64) + 2 {
+            return false;
+        }
+        journal <= journal_len
+    }
+
+    // A ledger opened on a saved list. Every run is checked before anything is written.
+    pub fn open(file: &[u8], journal: usize, storage: &mut [u64], lent: &[u32]) -> Opened
+        ensures { λ r. ⌜ OpenEnsures (now (file .entry)) journal (now (storage .entry)) (now (lent .entry)) r (now (storage .exit)) ⌝ }
+    {
+        let Header::Fields(words, runs) = saved_list::read_header(file) else {
+            return Opened::Refused(7);
+        };
+        let Made::Head(set) = RangeBitset::new(64 * words as usize) else {
+            return Opened::Refused(1);
+        };
+        if journal > JOURNAL_MOST as usize {
+            return Opened::Refused(1);
+        }
+        let LengthCheck::GoodLength = saved_list::check_length(file) else {
+            return Opened::Refused(7);
+        };
+        if !Self::lent_enough(words as usize, journal, storage.len(), lent.len()) {
+            return Opened::Refused(3);
+        }
+        if let RunCheck::BadRun(index) = saved_list::check_runs(file) {
+            return Opened::BadRun(index);
+        }
+        let set = Self::assign_file(set, storage, file, runs);
+        Opened::Head(Ledger {
+            set,
+            journal: journal as u32,
+            used: 0,
+        })
+    }
+
+    // Mark every position in `start..end`; answers how many changed.
+    pub fn mark(self, storage: &mut [u64], journal: &mut [u32], start: usize, end: usize) -> Called
+        ensures { λ r. ⌜ CallEnsures (Range start end true) (memory self (now (storage .entry)) (now (journal .entry))) (ofCounted (r .answer)) (memory (r .head) (now (storage .exit)) (now (journal .exit))) ⌝ }
+    {
+        Self::assign(self, storage, journal, start, end, true)
+    }
+
+    // Clear every position in `start..end`; answers how many changed.
+    pub fn clear(self, storage: &mut [u64], journal: &mut [u32], start: usize, end: usize) -> Called
+        ensures { λ r. ⌜ CallEnsures (Range start end false) (memory self (now (storage .entry)) (now (journal .entry))) (ofCounted (r .answer)) (memory (r .head) (now (storage .exit)) (now (journal .exit))) ⌝ }
+    {
+        Self::assign(self, storage, journal, start, end, false)
+    }
+
+    // Mark one position.
+    pub fn mark_point(self, storage: &mut [u64], journal: &mut [u32], index: usize) -> Called
+        ensures { λ r. ⌜ CallEnsures (point index true) (memory self (now (storage .entry)) (now (journal .entry))) (ofCounted (r .answer)) (memory (r .head) (now (storage .exit)) (now (journal .exit))) ⌝ }
+    {
+        Self::assign_point(self, storage, journal, index, true)
+    }
+
+    // Clear one position.
+    pub fn clear_point(self, storage: &mut [u64], journal: &mut [u32], index: usize) -> Called
+        ensures { λ r. ⌜ CallEnsures (point index false) (memory self (now (storage .entry)) (now (journal .entry))) (ofCounted (r .answer)) (memory (r .head) (now (storage .exit)) (now (journal .exit))) ⌝ }
+    {
+        Self::assign_point(self, storage, journal, index, false)
+    }
+
+    // Take the last standing call back: the runs that it changed get their old value. Answers how many positions changed.
+    pub fn take_back(self, storage: &mut [u64], journal: &[u32]) -> Called
+        ensures { λ r. ⌜ CallEnsures Back (memory self (now (storage .entry)) (now (journal .entry))) (ofCounted (r .answer)) (memory (r .head) (now (storage .exit)) (now (journal .entry))) ⌝ }
+    {
+        let refused = Self::refusal(self, storage.len(), journal.len());
+        if refused != 0 {
+            return Called {
+                answer: Counted::Refused(refused),
+                head: self,
+            };
+        }
+        let used = self.used;
+        let Last::Standing(runs, value) = Self::last_call(journal, used) else {
+            return Called {
+                answer: Counted::Refused(5),
+                head: self,
+            };
+        };
+        let limit = self.journal;
+        let set = self.set;
+        let first = used - (2 * runs + 1);
+        let back = Self::assign_runs(set, storage, journal, first, runs, !value);
+        let next = back.head;
+        Called {
+            answer: Counted::Count(back.changed),
+            head: Ledger {
+                set: next,
+                journal: limit,
+                used: first,
+            },
+        }
+    }
+
+    // Empty the set and the journal; answers how many positions the set had. The journal's numbers are left.
+    pub fn wipe(self, storage: &mut [u64]) -> Called
+        ensures { λ r. ⌜ ((j : List ℕ) → CallEnsures Wipe (memory self (now (storage .entry)) j) (ofCounted (r .answer)) (memory (r .head) (now (storage .exit)) j)) ⌝ }
+    {
+        let refused = Self::wipe_refusal(self, storage.len());
+        if refused != 0 {
+            return Called {
+                answer: Counted::Refused(refused),
+                head: self,
+            };
+        }
+        let limit = self.journal;
+        let set = self.set;
+        let done = set.clear(storage);
+        let answer = done.answer;
+        let next = done.head;
+        Called {
+            answer,
+            head: Ledger {
+                set: next,
+                journal: limit,
+                used: 0,
+            },
+        }
+    }
+
+    fn good_head(head: Ledger) -> bool
+        ensures { λ r. ⌜ r ≡ goodLedger head ⌝ }
+    {
+        let Counted::Count(_) = head.set.len() else {
+            return false;
+        };
+        if head.journal > JOURNAL_MOST {
+            return false;
+        }
+        head.used <= head.journal
+    }
+
+    // 0, or the number by which a call on head and storage is refused.
+    fn wipe_refusal(head: Ledger, storage_len: usize) -> u8
+        ensures { λ r. ⌜ r ≡ wipeRefusal head «storage_len» ⌝ }
+    {
+        if !Self::good_head(head) {
+            return 2;
+        }
+        if Self::lent_enough(head.set.words as usize, 0, storage_len, 0) {
+            0
+        } else {
+            3
+        }
+    }
+
+    // 0, or the number by which a call on head, storage and journal is refused.
+    fn refusal(head: Ledger, storage_len: usize, journal_len: usize) -> u8
+        ensures { λ r. ⌜ r ≡ lentRefusal head «storage_len» «journal_len» ⌝ }
+    {
+        if !Self::good_head(head) {
+            return 2;
+        }
+        if Self::lent_enough(
+            head.set.words as usize,
+            head.journal as usize,
+            storage_len,
+            journal_len,
+        ) {
+            0
+        } else {
+            3
+        }
+    }
+
+    // Mark or clear: refused before anything is written, or recorded and then done.
+    fn assign(
+        head: Ledger,
+        storage: &mut [u64],
+        journal: &mut [u32],
+        start: usize,
+        end: usize,
+        value: bool,
+    ) -> Called
+        ensures { λ r. ⌜ CallEnsures (Range start end value) (memory head (now (storage .entry)) (now (journal .entry))) (ofCounted (r .answer)) (memory (r .head) (now (storage .exit)) (now (journal .exit))) ⌝ }
+    {
+        let refused = Self::refusal(head, storage.len(), journal.len());
+        if refused != 0 {
+            return Self::declined(head, refused);
+        }
+        let set = head.set;
+        let limit = head.journal;
+        let used = head.used;
+        if end > 64 * (set.words as usize) {
+            return Self::declined(head, 4);
+        }
+        if used == limit {
+            return Self::declined(head, 6);
+        }
+        let most = (limit - used - 1) / 2;
+        let runs = Self::count_runs(set, storage, start, end, value, most + 1);
+        if runs > most {
+            return Self::declined(head, 6);
+        }
+        Self::write_call(set, storage, journal, used, start, end, value, runs);
+        let done = set.assign(storage, start, end, value);
+        let answer = done.answer;
+        let next = done.head;
+        Called {
+            answer,
+            head: Ledger {
+                set: next,
+                journal: limit,
+                used: used + (2 * runs + 1),
+            },
+        }
+    }
+
+    fn declined(head: Ledger, refused: u8) -> Called
+        ensures { λ r. ⌜ (r .answer ≡ counted.Refused refused) × (r .head ≡ head) ⌝ }
+    {
+        Called {
+            answer: Counted::Refused(refused),
+            head,
+        }
+    }
+
+    // A point past every capacity has no end of its own.
+    fn assign_point(
+        head: Ledger,
+        storage: &mut [u64],
+        journal: &mut [u32],
+        index: usize,
+        value: bool,
+    ) -> Called
+        ensures { λ r. ⌜ CallEnsures (point index value) (memory head (now (storage .entry)) (now (journal .entry))) (ofCounted (r .answer)) (memory (r .head) (now (storage .exit)) (now (journal .exit))) ⌝ }
+    {
+        if index == usize::MAX {
+            let refused = Self::refusal(head, storage.len(), journal.len());
+            if refused != 0 {
+                return Self::declined(head, refused);
+            }
+            return Self::declined(head, 4);
+        }
+        Self::assign(head, storage, journal, index, index + 1, value)
+    }
+
+    // First position in `from..end` equal to `value`, or `end`.
+    fn find(set: RangeBitset, storage: &[u64], from: usize, end: usize, value: bool) -> usize
+        ensures { λ r. ⌜ Finds set (now (storage .entry)) from end value r ⌝ }
+    {
+        if value {
+            Self::place_or(set.next_one(storage, from, end), end)
+        } else {
+            Self::place_or(set.next_zero(storage, from, end), end)
+        }
+    }
+
+    // How many runs of `start..end` a call would change, counted up to `most`.
+    fn count_runs(
+        set: RangeBitset,
+        storage: &[u64],
+        start: usize,
+        end: usize,
+        value: bool,
+        most: u32,
+    ) -> u32
+        ensures { λ r. ⌜ CountsRuns set (now (storage .entry)) start end value most r ⌝ }
+    {
+        let mut runs = 0u32;
+        let mut from = start;
+        while runs < most {
+            let at = Self::find(set, storage, from, end, !value);
+            if at >= end {
+                return runs;
+            }
+            from = Self::find(set, storage, at, end, value);
+            runs += 1;
+        }
+        runs
+    }
+
+    // Write the first `runs` runs of `start..end` that a call changes, and its closing number, from `used` on.
+    fn write_call(
+        set: RangeBitset,
+        storage: &[u64],
+        journal: &mut [u32],
+        used: u32,
+        start: usize,
+        end: usize,
+        value: bool,
+        runs: u32,
+    )
+        requires { ⌜ (used + (2 * runs + 1) ≤ length (now journal)) × (used + (2 * runs + 1) ≤ 16384) ⌝ }
+        ensures { λ r. ⌜ WritesCall set (now (storage .entry)) start end value used runs (now (journal .entry)) (now (journal .exit)) ⌝ }
+    {
+        let mut slot = used as usize;
+        let mut i = 0u32;
+        let mut from = start;
+        while i < runs {
+            let at = Self::find(set, storage, from, end, !value);
+            from = Self::find(set, storage, at, end, value);
+            journal[slot] = Self::low_u32(at);
+            journal[slot + 1] = Self::low_u32(from);
+            slot += 2;
+            i += 1;
+        }
+        journal[slot] = Self::packed(runs, value);
+    }
+
+    // The call that the last of `used` journal numbers closes. Any journal is safe: no more runs than it can hold.
+    fn last_call(journal: &[u32], used: u32) -> Last
+        requires { ⌜ used ≤ length (now journal) ⌝ }
+        ensures { λ r. ⌜ r ≡ lastOf (now (journal .entry)) used ⌝ }
+    {
+        if used == 0 {
+            return Last::NoCall;
+        }
+        let last = journal[(used - 1) as usize];
+        let most = (used - 1) / 2;
+        let runs = last / 2;
+        if runs <= most {
+            Last::Standing(runs, last % 2 == 1)
+        } else {
+            Last::Standing(most, last % 2 == 1)
+        }
+    }
+
+    // Give `runs` runs of the journal, from `first` on, one value.
+    fn assign_runs(
+        set: RangeBitset,
+        storage: &mut [u64],
+        journal: &[u32],
+        first: u32,
+        runs: u32,
+        value: bool,
+    ) -> Reassigned
+        requires { ⌜ (first + 2 * runs ≤ length (now journal)) × (first + 2 * runs ≤ 16384) ⌝ }
+        ensures { λ r. ⌜ AssignsRuns set (now (storage .entry)) (readRuns (now (journal .entry)) first runs) value (r .changed) (r .head) (now (storage .exit)) ⌝ }
+    {
+        let mut head = set;
+        let mut changed = 0u32;
+        let mut slot = first as usize;
+        let mut i = 0u32;
+        while i < runs {
+            let start = journal[slot] as usize;
+            let end = journal[slot + 1] as usize;
+            let done = head.assign(storage, start, end, value);
+            let answer = done.answer;
+            changed = std::num::wrapping_add_u32(changed, Self::count_of(answer));
+            head = done.head;
+            slot += 2;
+            i += 1;
+        }
+        Reassigned { changed, head }
+    }
+
+    // Set the first `runs` runs of a saved list.
+    fn assign_file(set: RangeBitset, storage: &mut [u64], file: &[u8], runs: u32) -> RangeBitset
+        ensures { λ r. ⌜ OpensRuns set (now (storage .entry)) (now (file .entry)) runs r (now (storage .exit)) ⌝ }
+    {
+        let mut head = set;
+        let mut i = 0u32;
+        while i < runs {
+            let FoundRun::At(start, end) = saved_list::run_at(file, i as usize) else {
+                return head;
+            };
+            let done = head.assign(storage, start as usize, end as usize, true);
+            head = done.head;
+            i += 1;
+        }
+        head
+    }
+
+    fn place_or(found: Found, end: usize) -> usize
+        ensures { λ r. ⌜ r ≡ placeIn found end ⌝ }
+    {
+        match found {
+            Found::At(i) => i,
+            Found::Nothing => end,
+            Found::Refused(_) => end,
+        }
+    }
+
+    fn count_of(answer: Counted) -> u32
+        ensures { λ r. ⌜ r ≡ countIn answer ⌝ }
+    {
+        match answer {
+            Counted::Count(n) => n,
+            Counted::Refused(_) => 0,
+        }
+    }
+
+    // A position in 32 bits.
+    fn low_u32(x: usize) -> u32
+        ensures { λ r. ⌜ r ≡ x % 4294967296 ⌝ }
+    {
+        (x % 0x1_0000_0000) as u32
+    }
+
+    // A call's closing number.
+    fn packed(runs: u32, value: bool) -> u32
+        requires { ⌜ runs ≤ 8192 ⌝ }
+        ensures { λ r. ⌜ r ≡ 2 * runs + one value ⌝ }
+    {
+        if value { 2 * runs + 1 } else { 2 * runs }
+    }
+}
