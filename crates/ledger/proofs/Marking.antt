@@ -130,12 +130,9 @@ place-le s v a e = by (first s v a e) (first-means s v a e)
     by f (miss m) = omega arith
 
 -- the run that is written next: there is one, and both its ends fit 32 bits
-record Next (s : Positions) (e : ℕ) (v : Bool) (from x y q : ℕ) : Type 0 where
-  is-next : changedRuns s from e v ≡ run x y ∷ changedRuns s q e v
-
 written-next : (h : RangeBitset) (st : List ℕ) (e : ℕ) (v : Bool) (s : Positions) (from p q x y : ℕ) → rangeRefusal h (length st) e ≡ 0
     → p ≡ placeOr e (first s (not v) from e) → q ≡ placeOr e (first s v p e) → x ≡ p % 4294967296 → y ≡ q % 4294967296
-    → 0 < length (changedRuns s from e v) → Next s e v from x y q
+    → 0 < length (changedRuns s from e v) → changedRuns s from e v ≡ run x y ∷ changedRuns s q e v
 written-next h st e v s from p q x y z k l m n some = by (leb e p) refl
   where
     bounds : (p ≤ e) × (q ≤ e) × (e ≤ 262144)
@@ -143,12 +140,12 @@ written-next h st e v s from p q x y z k l m n some = by (leb e p) refl
         let b = range-accepted h st e z in
         (omega (arith, place-le s (not v) from e), omega (arith, place-le s v p e), omega (arith, b .0 .most, b .1))
 
-    by : (t : Bool) → leb e p ≡ t → Next s e v from x y q
+    by : (t : Bool) → leb e p ≡ t → changedRuns s from e v ≡ run x y ∷ changedRuns s q e v
     by true t = absurd (omega (arith, ap length (no-run s from e v p k (leb-true e p t))))
     by false t =
         let u : x ≡ p = omega (arith, bounds) in
         let w : y ≡ q = omega (arith, bounds) in
-        record { is-next = rw (u, w) (next-run s from e v p q k l (leb-false e p t)) }
+        rw (u, w) (next-run s from e v p q k l (leb-false e p t))
 
 pub writing-next : (h : RangeBitset) (st : List ℕ) (a e : ℕ) (v : Bool) (u runs : ℕ) (j₀ j : List ℕ) (i from p q x y at : ℕ)
     → at ≡ u + 2 * i → at + 1 < length j → i < runs → Finds h st from e (not v) p → Finds h st p e v q
@@ -158,11 +155,11 @@ writing-next h st a e v u runs j₀ j i from p q x y at o f g k l m n w =
     record {
       same-length = length-set (set j at x) (at + 1) y ∙ length-set j at x ∙ w .same-length;
       others = rest;
-      left = λ z s r t. omega (arith, w .left z s r t, ap length (follows z s r t .is-next));
-      so-far = λ z s r t. joined s (follows z s r t .is-next) (w .so-far z s r t);
+      left = λ z s r t. omega (arith, w .left z s r t, ap length (follows z s r t));
+      so-far = λ z s r t. joined s (follows z s r t) (w .so-far z s r t);
     }
   where
-    follows : rangeRefusal h (length st) e ≡ 0 → (s : Positions) → Represents h st s → runs ≡ length (changedRuns s a e v) → Next s e v from x y q
+    follows : rangeRefusal h (length st) e ≡ 0 → (s : Positions) → Represents h st s → runs ≡ length (changedRuns s a e v) → changedRuns s from e v ≡ run x y ∷ changedRuns s q e v
     follows z s r t = written-next h st e v s from p q x y z (k z s r) (l z s r) m n (omega (arith, w .left z s r t))
 
     rest : (c : ℕ) → (c < u) ⊎ (u + 2 * (i + 1) ≤ c) → getD (set (set j at x) (at + 1) y) c 0 ≡ getD j₀ c 0

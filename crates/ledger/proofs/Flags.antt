@@ -1,0 +1,97 @@
+-- Take-back keeps the flag over every list of calls from new or open: with the flag clear no standing clearing has changed a
+-- position, so there is none to set again. Assumes nothing.
+use mathlib.Core.Path.{_≡_, refl, sym, ap, _∙_}
+use mathlib.Core.Bool.{Bool, true, false, not, _&&_, _||_, true≢false}
+use mathlib.Core.List.{List, [], _∷_}
+use Prim.Native.Nat.{ℕ}
+use native.Mathlib.Omega.{arith}
+use borrow.Author.Tests.{le-ltb, ltb-true, ltb-false}
+use lib.Dec.{ltb}
+use Rattle.positions.specs.Positions.{changedCount, differ, lacking}
+use Rattle.positions.proofs.Counts.{count-none}
+use Rattle.range_bitset.specs.Answers.{Reply, Number, Nothing, Refusal}
+use Rattle.ledger.specs.Machine.{Machine, Standing, Call, Range, Back, Wipe, setOf, made, Verdict, Accepted, Declined, rangeVerdict, standsAny, decided, step, after, changedBy}
+use Rattle.ledger.specs.Memory.{Memory, Holds}
+use Rattle.ledger.specs.Entries.{Called, ofAnswer, restores, flagAfter}
+use Rattle.ledger.specs.History.{Begun, by-new, by-open, Chain, none, call}
+use Rattle.ledger.proofs.Machines.{set-inside}
+
+abbrev pub flagOf : Memory → Bool
+flagOf x = x .head .set .allocated
+
+-- with the flag clear no standing clearing has changed a position
+abbrev pub Unmarked : Memory → Machine → Type 0
+Unmarked x m = flagOf x ≡ false → changedBy false (m .standing) ≡ 0
+
+-- so it is after new or open
+pub unmarked-begun : (x : Memory) (m : Machine) → Begun x m → Unmarked x m
+unmarked-begun x m (by-new e) f = refl
+unmarked-begun x m (by-open e) f = refl
+
+or-clear : (a b : Bool) → (a || b) ≡ false → a ≡ false
+or-clear true b e = absurd (true≢false e)
+or-clear false b e = refl
+
+-- ---- and so it stays
+
+module _ (x : Memory) (m : Machine) (q : Holds x m) (u : Unmarked x m) where
+  -- with the flag clear the set has nothing, so a clearing changes nothing
+  clears-none : (a e : ℕ) → flagOf x ≡ false → changedCount (setOf m) a e false ≡ 0
+  unfolding changedCount
+  clears-none a e f = count-none (lacking (setOf m) false) a e (λ i l w. ap (λ (b : Bool). differ b false) (empty i))
+    where
+      empty : (i : ℕ) → setOf m i ≡ false
+      empty i = go (ltb i (m .capacity)) refl
+        where
+          go : (b : Bool) → ltb i (m .capacity) ≡ b → setOf m i ≡ false
+          go true y = q .set .fresh f i (omega (arith, ltb-true i (m .capacity) y, q .capacity))
+          go false y = set-inside m (q .kept) i (ltb-false i (m .capacity) y)
+
+  module _ (r : Reply) (y : Memory) where
+    unmarked-range : (a e : ℕ) (v : Bool) (w : Verdict) → r ≡ ofAnswer (decided w m (Range a e v) .answer) → flagOf y ≡ flagAfter (flagOf x) m (Range a e v) r
+        → Unmarked y (decided w m (Range a e v) .next)
+    unfolding made
+    unmarked-range a e v (Declined k) p g f = u (sym (g ∙ rw p) ∙ f)
+    unmarked-range a e true Accepted p g f = omega (arith, u (or-clear (flagOf x) (true && ltb a e) (sym (g ∙ rw p) ∙ f)))
+    unmarked-range a e false Accepted p g f =
+        let z = or-clear (flagOf x) (false && ltb a e) (sym (g ∙ rw p) ∙ f) in
+        omega (arith, u z, clears-none a e z)
+
+    unmarked-back : (l : List Standing) → m .standing ≡ l → r ≡ ofAnswer (decided (standsAny l) m Back .answer) → flagOf y ≡ flagAfter (flagOf x) m Back r
+        → Unmarked y (decided (standsAny l) m Back .next)
+    unmarked-back [] k p g f = u (sym (g ∙ rw p) ∙ f)
+    unmarked-back (c ∷ cs) k p g f =
+        let z = u (or-clear (flagOf x) (restores (m .standing)) (sym (g ∙ rw p) ∙ f)) in
+        rw k (omega (arith, ap (changedBy false) k))
+
+  pub unmarked-step : (c : Call) (r : Reply) (y : Memory) → Called c x r y → Unmarked y (step m c .next)
+  unfolding step
+  unmarked-step (Range a e v) r y k = unmarked-range r y a e v (rangeVerdict m a e v) (k .answers m q) (k .flag m q)
+  unmarked-step Back r y k = unmarked-back r y (m .standing) refl (k .answers m q) (k .flag m q)
+  unmarked-step Wipe r y k = λ f. refl
+
+  -- take-back keeps the flag
+  pub flag-kept : (r : Reply) (y : Memory) → Called Back x r y → flagOf y ≡ flagOf x
+  flag-kept r y k = k .flag m q ∙ by r (flagOf x) refl
+    where
+      nothing : (l : List Standing) → changedBy false l ≡ 0 → restores l ≡ false
+      nothing [] z = refl
+      nothing (c ∷ cs) z = one-call (c .value) z
+        where
+          one-call : (v : Bool) → changedBy false ((record { start = c .start; end = c .end; value = v; changed = c .changed; needed = c .needed }) ∷ cs) ≡ 0
+              → (not v && ltb 0 (c .changed)) ≡ false
+          one-call true z = refl
+          one-call false z = le-ltb 0 (c .changed) (omega arith)
+
+      by : (r : Reply) (b : Bool) → flagOf x ≡ b → flagAfter (flagOf x) m Back r ≡ flagOf x
+      by (Number n) true f = rw f
+      by (Number n) false f = rw f (nothing (m .standing) (u f))
+      by Nothing b f = refl
+      by (Refusal n) b f = refl
+
+pub unmarked-chain : (x y : Memory) (m : Machine) (cs : List Call) (rs : List Reply) → Holds x m → Unmarked x m → Chain x cs rs y
+    → Holds y (after m cs .last) × Unmarked y (after m cs .last)
+unfolding after
+unmarked-chain x y m cs rs q u none = (q, u)
+unmarked-chain x y m cs rs q u (call {y = z} {c = c} {r = r} k ks) =
+    unmarked-chain z y (step m c .next) _ _ (k .holds m q) (unmarked-step x m q u c r z k) ks
