@@ -1,5 +1,9 @@
-// Runs 01's cases of the set that have no star, and prints each answer. `stdout` has the answers that 01 gives, written
-// from 01 and not by this code. The storage starts with numbers that mean nothing: a fresh set believes none of them.
+// Runs 01's cases that have no star, by the set and then by the ledger, and prints each answer. `stdout` has the answers that
+// 01 gives, written from 01 and not by this code. The storage and the journal start with numbers that mean nothing: a fresh
+// set or ledger believes none of them.
+use ledger::Called;
+use ledger::Ledger;
+use ledger::Opened;
 use libc::STDOUT_FILENO;
 use range_bitset::Assigned;
 use range_bitset::Counted;
@@ -123,10 +127,114 @@ fn not_allowed() {
     let too_large = new(b"new 524288: ", 524288);
 }
 
+// ---- the ledger
+
+// Says 0 for a new ledger, or why there is none. A refused one gives a head that every call refuses.
+fn began(name: &[u8], got: Opened) -> Ledger {
+    say(name);
+    match got {
+        Opened::Head(head) => {
+            say_number(0);
+            return head;
+        }
+        Opened::Refused(k) => say_refused(k),
+        Opened::BadRun(index) => {
+            say(b"refused 8, run ");
+            say_number(index as u64);
+        }
+    }
+    Ledger {
+        set: RangeBitset {
+            words: 0,
+            len: 0,
+            allocated: false,
+        },
+        journal: 0,
+        used: 0,
+    }
+}
+
+// A call's answer, and the head after it.
+fn called(name: &[u8], got: Called) -> Ledger {
+    let answer = got.answer;
+    let head = got.head;
+    say(name);
+    say_counted(answer);
+    head
+}
+
+// The range over a border of blocks.
+fn border_marked(storage: &mut [u64], journal: &mut [u32]) -> Ledger {
+    let head = began(b"ledger 8192: ", Ledger::new(8192, 3, storage, journal));
+    let head = called(
+        b"mark 4032..4160: ",
+        head.mark(storage, journal, 4032, 4160),
+    );
+    let set = head.set;
+    say(b"count 4095..4097: ");
+    say_counted(set.count(storage, 4095, 4097));
+    head
+}
+
+// No room for another call.
+fn border_full(storage: &mut [u64], journal: &mut [u32]) -> Ledger {
+    let head = border_marked(storage, journal);
+    called(b"mark 0..1: ", head.mark(storage, journal, 0, 1))
+}
+
+// Its one call taken back, and none left.
+fn taken_back(head: Ledger, storage: &mut [u64], journal: &[u32]) {
+    let head = called(b"back: ", head.take_back(storage, journal));
+    let head = called(b"back: ", head.take_back(storage, journal));
+}
+
+fn border_taken_back(storage: &mut [u64], journal: &mut [u32]) {
+    let head = border_full(storage, journal);
+    taken_back(head, storage, journal);
+}
+
+// The largest ledger, filled and emptied.
+fn cleared(storage: &mut [u64], journal: &mut [u32]) -> Ledger {
+    let head = began(b"ledger 262144: ", Ledger::new(262144, 9, storage, journal));
+    let head = called(b"mark 0..262144: ", head.mark(storage, journal, 0, 262144));
+    called(
+        b"clear 0..262144: ",
+        head.clear(storage, journal, 0, 262144),
+    )
+}
+
+// One position of it marked.
+fn marked_again(storage: &mut [u64], journal: &mut [u32]) -> Ledger {
+    let head = cleared(storage, journal);
+    let head = called(
+        b"mark point 4095: ",
+        head.mark_point(storage, journal, 4095),
+    );
+    let set = head.set;
+    say(b"population: ");
+    say_counted(set.len());
+    head
+}
+
+fn wiped(storage: &mut [u64], journal: &mut [u32]) {
+    let head = marked_again(storage, journal);
+    let head = called(b"wipe: ", head.wipe(storage));
+}
+
+fn no_ledger(storage: &[u64], journal: &[u32]) {
+    let thirty_two_off = began(b"ledger 96: ", Ledger::new(96, 9, storage, journal));
+    let too_large = began(b"ledger 524288: ", Ledger::new(524288, 9, storage, journal));
+    let long_journal = began(b"journal 16385: ", Ledger::new(64, 16385, storage, journal));
+}
+
 fn main() {
     let mut storage = [0x5555555555555555u64; 4290];
+    let mut journal = [0x55555555u32; 16];
     over_a_border(&mut storage);
     a_block_cleared(&mut storage);
     set_again(&mut storage);
     not_allowed();
+    border_taken_back(&mut storage, &mut journal);
+    wiped(&mut storage, &mut journal);
+    no_ledger(&storage, &journal);
 }

@@ -75,7 +75,8 @@ enum-known-index c = search needs
 
 returns-6 : tie.Need-returns-6
 returns-6 c =
-    open-run _ _ _ _ _ (c .before .before .before .before .before .before .before .before .before .before .before .before .before .before .before .before .before .read-header .ensures) _ _ (c .before .before .before .before .before .before .before .before .before .before .before .before .before .before .before .words .given .1) _ (c .before .before .before .before .before .before .before .before .before .before .before .before .before .new .ensures) _ (c .before .before .before .before .before .before .before .before .before .before .before .set .given .1) (c .before .before .before .before .before .before .before .before .before .if1 .left) _ (c .before .before .before .before .before .before .before .before .check-length .ensures) (c .before .before .before .before .before .before .enum-told3 .given .1) _ (c .before .before .before .before .before .lent-enough .ensures) (not-false _ (c .before .before .before .before .if2 .left)) _ (c .before .before .before .check-runs .ensures) _ (c .before .index .given .1)
+    let b = c .before .before .before .before in
+    open-run _ _ _ _ _ (b .before .before .before .before .before .before .before .before .before .before .before .before .before .read-header .ensures) _ _ (b .before .before .before .before .before .before .before .before .before .before .before .words .given .1) _ (b .before .before .before .before .before .before .before .before .before .new .ensures) _ (b .before .before .before .before .before .before .before .set .given .1) (b .before .before .before .before .before .if1 .left) _ (b .before .before .before .before .check-length .ensures) (b .before .before .enum-told3 .given .1) _ (b .before .lent-enough .ensures) (not-false _ (b .if2 .left)) _ (c .before .before .before .check-runs .ensures) _ (c .before .index .given .1)
 
 enum-told-5 : tie.Need-enum-told-5
 enum-told-5 c = search needs
@@ -91,7 +92,11 @@ same-length c = search needs
 
 returns-7 : tie.Need-returns-7
 returns-7 c =
-    open-done _ _ _ _ _ (c .before .before .before .before .before .before .before .before .before .before .before .before .before .before .before .before .before .before .before .before .read-header .ensures) _ _ (c .before .before .before .before .before .before .before .before .before .before .before .before .before .before .before .before .before .before .words .given .1) _ (c .before .before .before .before .before .before .before .before .before .before .before .before .before .before .before .before .new .ensures) _ (c .before .before .before .before .before .before .before .before .before .before .before .before .before .before .set .given .1) (c .before .before .before .before .before .before .before .before .before .before .before .before .if1 .left) _ (c .before .before .before .before .before .before .before .before .before .before .before .check-length .ensures) (c .before .before .before .before .before .before .before .before .before .enum-told3 .given .1) _ (c .before .before .before .before .before .before .before .before .lent-enough .ensures) (not-false _ (c .before .before .before .before .before .before .before .if2 .left)) _ (c .before .before .before .before .before .before .check-runs .ensures) (c .before .before .before .before .enum-told5 .given .1) _ _ (c .before .before .assign-file .kept .1 .0) (c .before .before .assign-file .ensures)
+    let b = c .before .before .before .before .before .before .before in
+    let r = c .before .before .before .before .before .before in
+    let t = c .before .before .before .before in
+    let a = c .before .before in
+    open-done _ _ _ _ _ (b .before .before .before .before .before .before .before .before .before .before .before .before .before .read-header .ensures) _ _ (b .before .before .before .before .before .before .before .before .before .before .before .words .given .1) _ (b .before .before .before .before .before .before .before .before .before .new .ensures) _ (b .before .before .before .before .before .before .before .set .given .1) (b .before .before .before .before .before .if1 .left) _ (b .before .before .before .before .check-length .ensures) (b .before .before .enum-told3 .given .1) _ (b .before .lent-enough .ensures) (not-false _ (b .if2 .left)) _ (r .check-runs .ensures) (t .enum-told5 .given .1) _ _ (a .assign-file .kept .1 .0) (a .assign-file .ensures)
 
 pub open-spec : {M : Type 1} → statement M
 open-spec =
