@@ -15,6 +15,7 @@ use Rattle.ledger.specs.Memory.{Memory, Holds}
 use Rattle.ledger.specs.Entries.{Called, ofAnswer, restores, flagAfter}
 use Rattle.ledger.specs.History.{Begun, by-new, by-open, Chain, none, call}
 use Rattle.ledger.proofs.Machines.{set-inside}
+use Rattle.ledger.proofs.Histories.{begun}
 
 abbrev pub flagOf : Memory → Bool
 flagOf x = x .head .set .allocated
@@ -95,3 +96,10 @@ unfolding after
 unmarked-chain x y m cs rs q u none = (q, u)
 unmarked-chain x y m cs rs q u (call {y = z} {c = c} {r = r} k ks) =
     unmarked-chain z y (step m c .next) _ _ (k .holds m q) (unmarked-step x m q u c r z k) ks
+
+-- so take-back keeps the flag after every list of calls from what new or open has just given
+pub flag-kept-after : (start end next : Memory) (m : Machine) (cs : List Call) (rs : List Reply) (r : Reply)
+    → Begun start m → Chain start cs rs end → Called Back end r next → flagOf next ≡ flagOf end
+flag-kept-after start end next m cs rs r b ks k =
+    let z = unmarked-chain start end m cs rs (begun start m b) (unmarked-begun start m b) ks in
+    flag-kept end (after m cs .last) (z .0) (z .1) r next k

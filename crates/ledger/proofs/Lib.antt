@@ -7,6 +7,6 @@ pub mod Recording
 pub mod Reassigning
 pub mod Backing
 pub mod Opening
-pub mod Flags
 pub mod Histories
+pub mod Flags
 pub mod Replays

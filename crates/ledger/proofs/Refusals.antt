@@ -151,10 +151,13 @@ wipe-accepted h n e = by (goodLedger h) refl (longStorage h n) refl e
     by true p false q z = absurd (omega arith)
     by true p true q z = record { good = p; long = leb-true _ _ q }
 
+pub accepted-storage : (h : RangeBitset) (n : ℕ) → goodHead h ≡ true → needed (h .words) ≤ n → storageRefusal h n ≡ 0
+unfolding storageRefusal
+accepted-storage h n g l = rw (g, le-ltb n (needed (h .words)) l)
+
 -- the set's own calls are then not refused 2 or 3, nor 4 up to the capacity
 pub set-accepts : (h : Ledger) (n : ℕ) → goodLedger h ≡ true → needed (h .set .words) ≤ n → storageRefusal (h .set) n ≡ 0
-unfolding storageRefusal
-set-accepts h n g l = rw (ledger-set h g, le-ltb n (needed (h .set .words)) l)
+set-accepts h n g l = accepted-storage (h .set) n (ledger-set h g) l
 
 pub range-accepts : (h : RangeBitset) (n e : ℕ) → storageRefusal h n ≡ 0 → e ≤ capacityOf h → rangeRefusal h n e ≡ 0
 unfolding rangeRefusal
@@ -185,10 +188,6 @@ storage-accepted h n e = by (goodHead h) refl (ltb n (needed (h .words))) refl e
     by true p true q z = absurd (omega arith)
     by false p l q z = absurd (omega arith)
     by true p false q z = (p, ltb-false _ _ q)
-
-pub accepted-storage : (h : RangeBitset) (n : ℕ) → goodHead h ≡ true → needed (h .words) ≤ n → storageRefusal h n ≡ 0
-unfolding storageRefusal
-accepted-storage h n g l = rw (g, le-ltb n (needed (h .words)) l)
 
 pub storage-again : (h h′ : RangeBitset) (n n′ : ℕ) (st : List ℕ) (s : Positions) → storageRefusal h n ≡ 0 → h′ .words ≡ h .words
     → Represents h′ st s → n′ ≡ n → storageRefusal h′ n′ ≡ 0

@@ -35,7 +35,7 @@ restores [] = false
 restores (c ∷ cs) = not (c .value) && ltb 0 (c .changed)
 
 -- 01's flag after a call: an accepted marking over at least one position sets it, every other call keeps it. (Take-back that
--- sets positions needs it set. From new or open it then is, law `flag-kept` in proofs/Flags; a memory that holds the same
+-- sets positions needs it set. From new or open it then is, law `flag-kept-after` in proofs/Flags; a memory that holds the same
 -- machine with the flag clear gets it set.)
 abbrev pub flagAfter : Bool → Machine → Call → Reply → Bool
 flagAfter x m (Range a e v) (Number n) = x || (v && ltb a e)

