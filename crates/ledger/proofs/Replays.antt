@@ -13,7 +13,8 @@ use Rattle.ledger.specs.Machine.{Machine, fresh, openedWith, Call, Wipe}
 use Rattle.ledger.specs.Memory.{Memory, memory, Holds}
 use Rattle.ledger.specs.Entries.{Called, newOf, refusalOf, openRefusal, OpenEnsures}
 use Rattle.ledger.specs.History.{by-new, Chain, none, call}
-use Rattle.ledger.specs.Replay.{Encoded, callOf, callsTo, fitting, codeOf, refusalIn, Replays, Chained, Continues}
+use Rattle.ledger.specs.Replay.{Encoded, callOf, callsTo, fitting, codeOf, refusalIn, Replays}
+use Rattle.ledger.specs.Inner.{Chained, Continues}
 use Rattle.ledger.specs.declared.Ledger.{Ledger}
 use Rattle.ledger.specs.declared.Opened.{Opened}
 use Rattle.ledger.specs.declared.Opened.the-variants as opened

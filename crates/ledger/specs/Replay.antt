@@ -9,11 +9,8 @@ use lib.ListN.{length, getD, take, drop}
 use Rattle.range_bitset.specs.Answers.{Reply, Number, Nothing, Refusal}
 use Rattle.ledger.specs.Machine.{Machine, Call, Range, Back, Wipe, point, after}
 use Rattle.ledger.specs.Memory.{Memory, memory}
-use Rattle.ledger.specs.Entries.{refusalOf}
-use Rattle.ledger.specs.History.{Chain, Agrees}
+use Rattle.ledger.specs.History.{Agrees}
 use Rattle.ledger.specs.declared.Ledger.{Ledger}
-use Rattle.ledger.specs.declared.Opened.{Opened}
-use Rattle.ledger.specs.declared.Opened.the-variants as opened
 use Rattle.ledger.specs.declared.replay.Replayed.{Replayed}
 use Rattle.ledger.specs.declared.replay.Replayed.the-variants as replayed
 
@@ -70,19 +67,3 @@ pub record Replays (refusal : List ℕ) (m : Machine) (l : Encoded) (st journal 
   pub refuses : refusalIn r ≡ refusal
   pub unchanged : (refusalIn r ≡ [] → ⊥) → (st′ ≡ st) × (journal′ ≡ journal) × (answers′ ≡ answers)
   pub ran : (h : Ledger) (n : ℕ) → r ≡ replayed.Ran h n → RanAll m l answers n answers′ (memory h st′ journal′)
-
--- ---- the inner function's contract: a chain of the entries' promises over the first i calls, with its replies written out
-
-pub record Chained (i : ℕ) (start : Memory) (l : Encoded) (answers answers′ : List ℕ) (end : Memory) : Type 0 where
-  pub others : drop i answers′ ≡ drop i answers
-  pub replies : List Reply
-  pub written : take i answers′ ≡ map codeOf replies
-  pub chain : Chain start (callsTo l i) replies end
-
--- what follows on new's or open's answer o: its refusal handed on with nothing changed, or as many calls as fit
-pub record Continues (o : Opened) (l : Encoded) (st journal answers : List ℕ) (r : Replayed) (st′ journal′ answers′ : List ℕ) : Type 0 where
-  pub refuses : refusalIn r ≡ refusalOf o
-  pub unchanged : (refusalOf o ≡ [] → ⊥) → (st′ ≡ st) × (journal′ ≡ journal) × (answers′ ≡ answers)
-  pub ran : (h : Ledger) (n : ℕ) → r ≡ replayed.Ran h n
-      → (n ≡ fitting l (length answers)) × ((start : Ledger) → o ≡ opened.Head start
-      → Chained n (memory start st journal) l answers answers′ (memory h st′ journal′))

@@ -1,15 +1,15 @@
 // Replay: a list of calls, lent as slices of numbers, run from a new or an opened ledger through the entries themselves.
 // The contract is the one statement about the whole list. Assumes nothing of its callers: no entry has a `requires`.
 ghost use mathlib.Core.Path.{_≡_};
-ghost use mathlib.Core.List.{List};
-ghost use Prim.Native.Nat.{ℕ, _≤_, min};
+ghost use Prim.Native.Nat.{_≤_, min};
 ghost use lib.ListN.{length};
 ghost use Rattle.range_bitset.specs.Answers.{ofCounted};
 ghost use Rattle.saved_list.specs.Format.{savedCapacity, savedPositions};
-ghost use Rattle.ledger.specs.Machine.{Machine, fresh, openedWith};
+ghost use Rattle.ledger.specs.Machine.{fresh, openedWith};
 ghost use Rattle.ledger.specs.Memory.{memory};
 ghost use Rattle.ledger.specs.Entries.{Called as CallEnsures, newOf, refusalOf, openRefusal};
-ghost use Rattle.ledger.specs.Replay.{encoded, callOf, codeOf, Replays, Chained, Continues};
+ghost use Rattle.ledger.specs.Replay.{encoded, callOf, codeOf, Replays};
+ghost use Rattle.ledger.specs.Inner.{Chained, Continues};
 use crate::Called;
 use crate::Ledger;
 use crate::Opened;

@@ -1,9 +1,9 @@
 -- `replay::code` meets its contract. Assumes nothing.
 use mathlib.Core.Path.{sym, ap}
 use borrow.Author.Needs.{needs}
+use Rattle.ledger.specs.Replay.{codeOf}
 use Rattle.range_bitset.specs.Answers.{ofCounted}
 use Rattle.range_bitset.specs.declared.Counted.{Counted}
-use Rattle.ledger.specs.Replay.{codeOf}
 use Rattle.ledger.proofs.replay.code.Statement.{statement}
 use Rattle.ledger.proofs.replay.code.Tie as tie
 

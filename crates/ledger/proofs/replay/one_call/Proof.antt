@@ -1,7 +1,7 @@
 -- `replay::one_call` meets its contract: the promise of the entry that it calls. Assumes nothing.
-use Rattle.ledger.proofs.Replays.{called-kind, called-wipe}
-use Rattle.ledger.specs.Replay.{callOf}
 use borrow.Author.Needs.{needs}
+use Rattle.ledger.specs.Replay.{callOf}
+use Rattle.ledger.proofs.Replays.{called-kind, called-wipe}
 use Rattle.ledger.proofs.replay.one_call.Statement.{statement}
 use Rattle.ledger.proofs.replay.one_call.Tie as tie
 

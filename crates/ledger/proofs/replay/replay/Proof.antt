@@ -1,7 +1,7 @@
 -- `replay::replay` meets its contract. Assumes nothing.
-use Rattle.ledger.proofs.Replays.{continues-ran, continues-refused, continues-bad, continued}
 use native.Mathlib.Omega.{arith}
 use borrow.Author.Needs.{needs}
+use Rattle.ledger.proofs.Replays.{continues-ran, continues-refused, continues-bad, continued}
 use Rattle.ledger.proofs.replay.replay.Statement.{statement}
 use Rattle.ledger.proofs.replay.replay.Tie as tie
 

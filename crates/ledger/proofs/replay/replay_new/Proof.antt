@@ -1,6 +1,6 @@
 -- `replay::replay_new` meets its contract. Assumes nothing.
-use Rattle.ledger.proofs.Replays.{replays-new}
 use borrow.Author.Needs.{needs}
+use Rattle.ledger.proofs.Replays.{replays-new}
 use Rattle.ledger.proofs.replay.replay_new.Statement.{statement}
 use Rattle.ledger.proofs.replay.replay_new.Tie as tie
 

@@ -1,6 +1,6 @@
 -- `replay::replay_open` meets its contract. Assumes nothing.
-use Rattle.ledger.proofs.Replays.{replays-open}
 use borrow.Author.Needs.{needs}
+use Rattle.ledger.proofs.Replays.{replays-open}
 use Rattle.ledger.proofs.replay.replay_open.Statement.{statement}
 use Rattle.ledger.proofs.replay.replay_open.Tie as tie
 

@@ -1,12 +1,13 @@
 -- `replay::run` meets its contract. The loop's invariant: the calls before `i` are a chain. Assumes nothing.
-use Rattle.ledger.proofs.Replays.{chained-none, chained-more, chained-at}
-use Rattle.ledger.specs.Replay.{encoded, Chained}
-use Rattle.ledger.specs.Memory.{memory}
+use mathlib.Core.Path.{_≡_}
+use Prim.Native.Nat.{_*_, _-_, _≤_, _<_}
+use native.Mathlib.Omega.{arith}
 use lib.ListN.{length}
 use borrow.Author.Needs.{needs}
-use native.Mathlib.Omega.{arith}
-use Prim.Native.Nat.{_*_, _-_, _≤_, _<_}
-use mathlib.Core.Path.{_≡_}
+use Rattle.ledger.specs.Replay.{encoded}
+use Rattle.ledger.specs.Memory.{memory}
+use Rattle.ledger.specs.Inner.{Chained}
+use Rattle.ledger.proofs.Replays.{chained-none, chained-more, chained-at}
 use Rattle.ledger.proofs.replay.run.Statement.{statement}
 use Rattle.ledger.proofs.replay.run.Tie as tie
 
