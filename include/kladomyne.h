@@ -1,4 +1,4 @@
-/* Kladomyne's ledger library, for C and C++: the set of sheets.
+/* Kladomyne's ledger library, for C and C++: the set of sheets, and the ledger, which is a set with an undo journal.
  *
  * Link target/staticlib/libcapi.a, which `rt staticlib capi` makes, on x86-64. The library allocates nothing, keeps
  * nothing between calls, and reads and writes only what the caller lends for the length of a call. Every symbol and
@@ -8,25 +8,42 @@
  * It holds positions 0 up to its capacity, the capacity itself left out. A range start..end holds start and leaves
  * out end; it holds nothing where start is not below end.
  *
+ * A ledger is a head, storage as a set's, and a journal, which the caller owns and lends too: J numbers of 32 bits, J at most
+ * 16,384, of which the first U are in use. A marking or clearing records in the journal the runs that it changes, and take-back
+ * gives just those runs their old value again, the last standing call first. The set in a ledger's head can be asked
+ * through the set's calls, with the ledger's storage; a ledger's set is changed by the ledger's calls alone.
+ *
  * What the caller owes. Nothing here can be checked by the library:
- *   - `storage` points to `storage_len` numbers, is not null (also where storage_len is 0), and is aligned to 8 bytes.
- *     For the three calls that change a set (set, assign, clear) nothing else reads or writes the numbers during the call.
+ *   - `storage` points to `storage_len` numbers, is not null (also where storage_len is 0), and is aligned to 8 bytes;
+ *     `journal` points to `journal_len` numbers, is not null, and is aligned to 4 bytes; `file` points to `file_len` bytes and
+ *     is not null. Where a pointer is not to `const`, nothing else reads or writes its numbers during the call, so that no
+ *     two of them overlap; where it is, nothing writes them during the call.
  *   - a `bool` is 0 or 1, as C and C++ make it.
  * Nothing else is owed: any head, any numbers in the storage and any arguments are allowed, and each call then returns and
  * stays in the numbers that were lent. What the calls promise below of their answer is promised where head and storage
  * are a pair that these calls left behind: the head is the one that the last call gave, and the storage has not
- * been written since. On any other memory an accepted call's answer, its head and the needed numbers are free, and
- * all that is said of refusals and of the numbers past the needed ones still holds.
+ * been written since, nor, for a ledger, the journal's first U numbers. On any other memory an accepted call's answer, its head
+ * and the numbers that it may write are free, and all that is said of refusals (but for 6) and of the other numbers still
+ * holds. What klado_set_audit, klado_ledger_new and klado_ledger_open promise is promised on any memory.
  *
  * Refusals. Every answer opens with `refused`: 0, or the number of the first of these rules that is broken, in this order:
- *   1  klado_set_new alone: the capacity is not 64 * W for a W that is a power of two from 1 to 4096.
- *   2  the head is not one: its word count is no such W, or it counts more positions than the capacity.
- *   3  the storage is shorter than the set needs (KLADO_SET_STORAGE).
+ *   1  new and open alone: the capacity is not 64 * W for a W that is a power of two from 1 to 4096, or J is above 16,384.
+ *   2  the head is not one: its word count is no such W, it counts more positions than the capacity, J is above 16,384, or
+ *      U is above J.
+ *   3  the storage is shorter than the set needs (KLADO_SET_STORAGE), or the journal is shorter than J.
  *   4  an end above the capacity, or an index at or above it.
- * A call that is refused writes nothing. Its other numbers are 0, and the head in its answer is the head that it was given
- * (for klado_set_new, a head of zeros, which every call refuses with 2). So a head can be replaced by the answer's in every case.
+ *   5  take-back alone: no call stands, U is 0.
+ *   6  marking and clearing alone: the call needs more journal numbers than are free, 1 + 2 * (runs that it changes) of J - U.
+ *   7  open alone: the file is under 11 bytes, its mark or version is wrong, or its length is not 11 + 8 * (its run count).
+ *   8  open alone: a run of the file is empty, ends above the capacity, or does not start above the end of the run before it.
+ *      `run` is the index of the first such run, counted from 0.
+ * Open checks 7 but for the length, then 1, then 7 for the length, then 3, then 8.
+ * A call that is refused writes nothing. Its other numbers are 0 (but for `run` with 8), and the head in its answer is the head
+ * that it was given (for new and open a head of zeros, which every call refuses with 2). So a head can be replaced by the
+ * answer's in every case.
  *
- * A call that is accepted writes only the first KLADO_SET_STORAGE numbers of the storage, and only set, assign and clear write.
+ * A call that is accepted writes only the first KLADO_SET_STORAGE numbers of the storage, and journal numbers from the old
+ * U up to the new one; and only through pointers that are not to `const`.
  */
 #ifndef KLADOMYNE_H
 #define KLADOMYNE_H
@@ -42,6 +59,9 @@
 #define KLADO_SET_STORAGE(capacity) \
     ((size_t)(capacity) / 64 + 3 * (((size_t)(capacity) / 64 + 63) / 64) + 2)
 #define KLADO_SET_STORAGE_MOST ((size_t)4290)
+
+/* The longest journal. */
+#define KLADO_JOURNAL_MOST ((size_t)16384)
 
 #ifdef __cplusplus
 extern "C" {
@@ -107,6 +127,69 @@ klado_found klado_set_next_zero(klado_set head, const uint64_t *storage, size_t 
 
 /* Takes every position out, and answers how many there were. `allocated` stays as it is. Refused: 2, 3. */
 klado_set_answer klado_set_clear(klado_set head, uint64_t *storage, size_t storage_len);
+
+/* The audit: 1 where head and storage are sound, which is what the other calls leave behind, else 0. On any memory.
+ * Refused: 2, 3. */
+klado_answer klado_set_audit(klado_set head, const uint64_t *storage, size_t storage_len);
+
+/* The head of a ledger. To be read by anyone, and to be made and changed by the calls below alone. */
+typedef struct {
+    klado_set set;
+    uint32_t  journal; /* J: how many journal numbers the calls are lent at least */
+    uint32_t  used;    /* U: how many of them are in use */
+} klado_ledger;
+
+/* What the calls give that change a ledger: the refusal, the answer, and the head as it is from now on. */
+typedef struct {
+    uint32_t     refused;
+    uint32_t     value;
+    klado_ledger head;
+} klado_ledger_answer;
+
+/* What new and open give: the refusal, the first bad run's index with refusal 8 (else 0), and the ledger's head. */
+typedef struct {
+    uint32_t     refused;
+    uint64_t     run;
+    klado_ledger head;
+} klado_opened;
+
+/* An empty ledger of this capacity with a journal of J = `limit` numbers: its head, with `allocated` clear and U = 0. It
+ * writes nothing, and what it is lent may hold anything; only the two lengths are looked at. `run` is 0. Refused: 1, 3. */
+klado_opened klado_ledger_new(size_t capacity, size_t limit, const uint64_t *storage, size_t storage_len,
+                              const uint32_t *journal, size_t journal_len);
+
+/* A ledger that has the positions of a saved list, with a journal of J = `limit` numbers, and no calls: U = 0. Every run
+ * of the file is checked before anything is written; what storage and journal hold before does not matter.
+ * `allocated` is set where the file has at least one run. Refused: 7, 1, 3, 8. */
+klado_opened klado_ledger_open(const uint8_t *file, size_t file_len, size_t limit, uint64_t *storage,
+                               size_t storage_len, const uint32_t *journal, size_t journal_len);
+
+/* Puts every position of start..end into the set, and answers how many positions that changed. The call stands until it is
+ * taken back, also where it changes nothing, and uses 1 + 2 * (runs that it changes) journal numbers. The work
+ * grows with those runs, and not with the capacity. Refused: 2, 3, 4, 6. */
+klado_ledger_answer klado_ledger_mark(klado_ledger head, uint64_t *storage, size_t storage_len, uint32_t *journal,
+                                      size_t journal_len, size_t start, size_t end);
+
+/* The same, taking the positions out. Refused: 2, 3, 4, 6. */
+klado_ledger_answer klado_ledger_clear(klado_ledger head, uint64_t *storage, size_t storage_len, uint32_t *journal,
+                                       size_t journal_len, size_t start, size_t end);
+
+/* klado_ledger_mark of index..index + 1: answers 1 or 0. Refused: 2, 3, 4, 6. */
+klado_ledger_answer klado_ledger_mark_point(klado_ledger head, uint64_t *storage, size_t storage_len,
+                                            uint32_t *journal, size_t journal_len, size_t index);
+
+/* klado_ledger_clear of index..index + 1: answers 1 or 0. Refused: 2, 3, 4, 6. */
+klado_ledger_answer klado_ledger_clear_point(klado_ledger head, uint64_t *storage, size_t storage_len,
+                                             uint32_t *journal, size_t journal_len, size_t index);
+
+/* Takes the last standing call back: the positions that it changed, and no others, have their old value again. Answers how
+ * many they are. The call stands no longer and its journal numbers are free; they are not written. Refused: 2, 3, 5. */
+klado_ledger_answer klado_ledger_take_back(klado_ledger head, uint64_t *storage, size_t storage_len,
+                                           const uint32_t *journal, size_t journal_len);
+
+/* Takes every position out, and answers how many there were. No call stands any longer: U is 0, and nothing can be taken
+ * back. `allocated` and J stay as they are; the journal's numbers are left. Refused: 2, 3. */
+klado_ledger_answer klado_ledger_wipe(klado_ledger head, uint64_t *storage, size_t storage_len);
 
 #ifdef __cplusplus
 }

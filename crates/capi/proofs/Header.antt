@@ -25,11 +25,11 @@ use Rattle.capi.specs.declared.KladoSet.{KladoSet}
 use Rattle.capi.specs.declared.KladoSetAnswer.{KladoSetAnswer}
 use Rattle.capi.specs.declared.KladoAnswer.{KladoAnswer}
 use Rattle.capi.specs.declared.KladoFound.{KladoFound}
-use Rattle.capi.specs.Told.{setOf, headOf, withHead, ofMade, ofCounted, ofTested, ofFound, CapacityTold, LenTold, GetTold, SetTold, AssignTold, CountTold, NextTold, ClearTold}
+use Rattle.capi.specs.Told.{setOf, headOf, withHead, ofMade, ofCounted, ofTested, ofFound, CapacityTold, LenTold, GetTold, SetTold, AssignTold, CountTold, NextTold, ClearTold, AuditTold}
 
 -- ---- the numbers of one answer
 
-counted-refused : (a : Counted) → ofCounted a .refused ≡ refused (reply.ofCounted a)
+pub counted-refused : (a : Counted) → ofCounted a .refused ≡ refused (reply.ofCounted a)
 counted-refused (counted.Count n) = refl
 counted-refused (counted.Refused k) = refl
 
@@ -110,6 +110,10 @@ count-refuses h st a e c t = ap (λ (x : KladoAnswer). x .refused) (t .told) ∙
 pub next-refuses : (v : Bool) → (h : KladoSet) → (st : List ℕ) → (a e : ℕ) → (c : KladoFound) → NextTold v h st a e c
     → c .refused ≡ rangeRefusal (setOf h) (length st) e
 next-refuses v h st a e c t = ap (λ (x : KladoFound). x .refused) (t .told) ∙ found-refused (t .answer) ∙ t .promised .refuses
+
+pub audit-refuses : (h : KladoSet) → (st : List ℕ) → (c : KladoAnswer) → AuditTold h st c
+    → c .refused ≡ storageRefusal (setOf h) (length st)
+audit-refuses h st c t = ap (λ (x : KladoAnswer). x .refused) (t .told) ∙ tested-refused (t .answer) ∙ t .promised .refuses
 
 -- ---- the calls that change a set: the refusal k, and what a refused call leaves
 

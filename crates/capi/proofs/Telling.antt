@@ -14,9 +14,9 @@ use Rattle.capi.specs.declared.KladoAnswer.{KladoAnswer}
 use Rattle.capi.specs.Told.{Told, setOf, ofCounted, ofTested, ofAssigned, ofUpdated, withHead, AssignTold, SetTold, ClearTold}
 
 -- `g` is the head as it was read
-pub telling : (A C : Type 0) → (P : RangeBitset → A → Type 0) → (to : A → C) → (h g : RangeBitset) → g ≡ h → (a : A) → P g a
+pub telling : {H : Type 0} → (A C : Type 0) → (P : H → A → Type 0) → (to : A → C) → (h g : H) → g ≡ h → (a : A) → P g a
     → (c : C) → c ≡ to a → Told A C (P h) to c
-telling A C P to h g e a p c t = record { answer = a; promised = subst (λ (x : RangeBitset). P x a) e p; told = t }
+telling {H = H} A C P to h g e a p c t = record { answer = a; promised = subst (λ (x : H). P x a) e p; told = t }
 
 -- the calls that change a set: the answer's numbers first, then the head with them
 pub tell-assign : (h : KladoSet) → (g : RangeBitset) → g ≡ setOf h → (st : List ℕ) → (a e : ℕ) → (v : Bool) → (r : Assigned)

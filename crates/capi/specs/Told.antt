@@ -5,7 +5,7 @@ use mathlib.Core.Bool.{Bool, false}
 use mathlib.Core.List.{List}
 use Prim.Native.Nat.{ℕ}
 use Rattle.positions.specs.Positions.{one}
-use Rattle.range_bitset.specs.Entries.{CapacityEnsures, LenEnsures, GetEnsures, CountEnsures, NextEnsures, AssignEnsures, SetEnsures, ClearEnsures}
+use Rattle.range_bitset.specs.Entries.{CapacityEnsures, LenEnsures, GetEnsures, CountEnsures, NextEnsures, AssignEnsures, SetEnsures, ClearEnsures, AuditEnsures}
 use Rattle.range_bitset.specs.declared.RangeBitset.{RangeBitset}
 use Rattle.range_bitset.specs.declared.Made.{Made}
 use Rattle.range_bitset.specs.declared.Made.the-variants as made
@@ -90,3 +90,6 @@ SetTold h st i v c st′ = Told Updated KladoSetAnswer (λ r. SetEnsures (setOf 
 
 abbrev pub ClearTold : KladoSet → List ℕ → KladoSetAnswer → List ℕ → Type 0
 ClearTold h st c st′ = Told Assigned KladoSetAnswer (λ r. ClearEnsures (setOf h) st r st′) ofAssigned c
+
+abbrev pub AuditTold : KladoSet → List ℕ → KladoAnswer → Type 0
+AuditTold h st c = Told Tested KladoAnswer (AuditEnsures (setOf h) st) ofTested c

@@ -1,0 +1,108 @@
+-- What include/kladomyne.h says of every answer of a ledger's call, on any memory, from the exports' promises: the refusal's
+-- number, the bad run's index, what a refused answer has beside it, and that a refused call changes nothing.
+-- Assumes nothing.
+use mathlib.Core.Path.{_≡_, refl, ap, _∙_}
+use mathlib.Core.Logic.{_≢_, _⊎_, inl, inr}
+use mathlib.Core.List.{List, [], _∷_}
+use Prim.Native.Nat.{ℕ}
+use lib.ListN.{length}
+use Rattle.range_bitset.specs.Answers.{Reply, refused}
+use Rattle.range_bitset.specs.Answers as reply
+use Rattle.ledger.specs.Machine.{Call, Wipe}
+use Rattle.ledger.specs.Memory.{Memory, memory, callRefusal}
+use Rattle.ledger.specs.Entries.{refusalOf, openRefusal}
+use Rattle.ledger.specs.declared.Called.{Called}
+use Rattle.ledger.specs.declared.Opened.{Opened}
+use Rattle.ledger.specs.declared.Opened.the-variants as opened
+use Rattle.capi.specs.declared.KladoLedger.{KladoLedger}
+use Rattle.capi.specs.declared.KladoLedgerAnswer.{KladoLedgerAnswer}
+use Rattle.capi.specs.declared.KladoOpened.{KladoOpened}
+use Rattle.capi.specs.LedgerTold.{ledgerOf, ledgerHead, unopened, ofOpened, ofCalled, Calls, CallTold, WipeTold, OpenTold}
+use Rattle.capi.proofs.Header.{counted-refused, counted-bare}
+
+-- ---- new and open
+
+-- a refused answer has the head of zeros
+pub opened-bare : (a : Opened) → ofOpened a .refused ≢ 0 → ofOpened a .head ≡ unopened 0 0 .head
+opened-bare (opened.Head h) z = absurd (z refl)
+opened-bare (opened.Refused k) z = refl
+opened-bare (opened.BadRun i) z = refl
+
+-- an index comes with 8 alone
+pub opened-run : (a : Opened) → ofOpened a .refused ≢ 8 → ofOpened a .run ≡ 0
+opened-run (opened.Head h) z = refl
+opened-run (opened.Refused k) z = refl
+opened-run (opened.BadRun i) z = absurd (z refl)
+
+-- a refusal's number, 0 where there is none, and the index with it
+abbrev pub number : List ℕ → ℕ
+number [] = 0
+number (k ∷ is) = k
+
+abbrev pub index : List ℕ → ℕ
+index [] = 0
+index (k ∷ []) = 0
+index (k ∷ i ∷ is) = i
+
+opened-number : (a : Opened) → ofOpened a .refused ≡ number (refusalOf a)
+opened-number (opened.Head h) = refl
+opened-number (opened.Refused k) = refl
+opened-number (opened.BadRun i) = refl
+
+opened-index : (a : Opened) → ofOpened a .run ≡ index (refusalOf a)
+opened-index (opened.Head h) = refl
+opened-index (opened.Refused k) = refl
+opened-index (opened.BadRun i) = refl
+
+-- open: both numbers, and a refused call leaves the storage
+pub record Unopened (file : List ℕ) (j : ℕ) (st journal : List ℕ) (c : KladoOpened) (st′ : List ℕ) : Type 0 where
+  pub refusal : c .refused ≡ number (openRefusal file j (length st) (length journal))
+  pub run : c .run ≡ index (openRefusal file j (length st) (length journal))
+  pub storage : c .refused ≢ 0 → st′ ≡ st
+
+pub open-declines : (file : List ℕ) → (j : ℕ) → (st journal : List ℕ) → (c : KladoOpened) → (st′ : List ℕ)
+    → OpenTold file j st journal c st′ → Unopened file j st journal c st′
+open-declines file j st journal c st′ t =
+    let told-number : c .refused ≡ number (refusalOf (t .answer)) = ap (λ (x : KladoOpened). x .refused) (t .told) ∙ opened-number (t .answer) in
+    record {
+      refusal = told-number ∙ ap number (t .promised .refuses);
+      run = ap (λ (x : KladoOpened). x .run) (t .told) ∙ opened-index (t .answer) ∙ ap index (t .promised .refuses);
+      storage = λ z. t .promised .unchanged (λ e. z (told-number ∙ ap number e));
+    }
+
+-- ---- marking, clearing, take-back and wipe: the refusal k of rules 2 to 5, and what a refused call leaves
+
+pub record Declines (k : ℕ) (h : KladoLedger) (st j : List ℕ) (c : KladoLedgerAnswer) (st′ j′ : List ℕ) : Type 0 where
+  pub refusal : k ≢ 0 → c .refused ≡ k
+  pub only-6 : k ≡ 0 → (c .refused ≡ 0) ⊎ (c .refused ≡ 6)
+  pub value : c .refused ≢ 0 → c .value ≡ 0
+  pub head : c .refused ≢ 0 → c .head ≡ h
+  pub storage : c .refused ≢ 0 → st′ ≡ st
+  pub journal : c .refused ≢ 0 → j′ ≡ j
+
+six : (n : ℕ) → (r : Reply) → (Q : Type 0) → n ≡ refused r → (refused r ≡ 0) ⊎ ((r ≡ reply.Refusal 6) × Q) → (n ≡ 0) ⊎ (n ≡ 6)
+six n r Q e (inl z) = inl (e ∙ z)
+six n r Q e (inr s) = inr (e ∙ ap refused (s .0))
+
+declines : (k : Call) → (h : KladoLedger) → (st j st′ j′ : List ℕ) → (r : Called) → Calls k (ledgerOf h) st j st′ j′ r
+    → (c : KladoLedgerAnswer) → c ≡ ofCalled r → Declines (callRefusal k (memory (ledgerOf h) st j)) h st j c st′ j′
+declines k h st j st′ j′ r p c t =
+    let same : c .refused ≡ refused (reply.ofCounted (r .answer)) = ap (λ (x : KladoLedgerAnswer). x .refused) t ∙ counted-refused (r .answer) in
+    let kept : c .refused ≢ 0 → memory (r .head) st′ j′ ≡ memory (ledgerOf h) st j = λ z. p .unchanged (λ e. z (same ∙ e)) in
+    record {
+      refusal = λ z. same ∙ ap refused (p .refuses z);
+      only-6 = λ z. six _ _ _ same (p .only-6 z);
+      value = λ z. ap (λ (x : KladoLedgerAnswer). x .value) t
+          ∙ counted-bare (r .answer) (λ e. z (ap (λ (x : KladoLedgerAnswer). x .refused) t ∙ e));
+      head = λ z. ap (λ (x : KladoLedgerAnswer). x .head) t ∙ ap (λ (x : Memory). ledgerHead (x .head)) (kept z);
+      storage = λ z. ap (λ (x : Memory). x .storage) (kept z);
+      journal = λ z. ap (λ (x : Memory). x .journal) (kept z);
+    }
+
+pub call-declines : (k : Call) → (h : KladoLedger) → (st j : List ℕ) → (c : KladoLedgerAnswer) → (st′ j′ : List ℕ)
+    → CallTold k h st j c st′ j′ → Declines (callRefusal k (memory (ledgerOf h) st j)) h st j c st′ j′
+call-declines k h st j c st′ j′ t = declines k h st j st′ j′ (t .answer) (t .promised) c (t .told)
+
+pub wipe-declines : (h : KladoLedger) → (st : List ℕ) → (c : KladoLedgerAnswer) → (st′ : List ℕ) → WipeTold h st c st′
+    → (j : List ℕ) → Declines (callRefusal Wipe (memory (ledgerOf h) st j)) h st j c st′ j
+wipe-declines h st c st′ t j = declines Wipe h st j st′ j (t .answer) (t .promised j) c (t .told)

@@ -1,0 +1,30 @@
+-- A ledger export's promise from what its callees promise: the head that was read, the entry's answer, the numbers for it.
+-- Assumes nothing.
+use mathlib.Core.Path.{_≡_, ap, _∙_}
+use mathlib.Core.List.{List}
+use Prim.Native.Nat.{ℕ}
+use Rattle.ledger.specs.Machine.{Call, Wipe}
+use Rattle.ledger.specs.declared.Ledger.{Ledger}
+use Rattle.ledger.specs.declared.Called.{Called}
+use Rattle.capi.specs.declared.KladoLedger.{KladoLedger}
+use Rattle.capi.specs.declared.KladoLedgerAnswer.{KladoLedgerAnswer}
+use Rattle.capi.specs.declared.KladoAnswer.{KladoAnswer}
+use Rattle.capi.specs.Told.{ofCounted}
+use Rattle.capi.specs.LedgerTold.{ledgerOf, ledgerHead, withLedger, ofCalled, Calls, CallTold, WipeTold}
+use Rattle.capi.proofs.Telling.{telling}
+
+-- the answer's numbers, then the head with them
+pub tell-called : (r : Called) → (k : KladoAnswer) → k ≡ ofCounted (r .answer) → (h : KladoLedger) → h ≡ ledgerHead (r .head)
+    → withLedger k h ≡ ofCalled r
+tell-called r k t h e =
+    ap (λ (x : KladoAnswer). withLedger x h) t ∙ ap (λ (x : KladoLedger). withLedger (ofCounted (r .answer)) x) e
+
+pub tell-call : (k : Call) → (h : KladoLedger) → (g : Ledger) → g ≡ ledgerOf h → (st j st′ j′ : List ℕ) → (r : Called)
+    → Calls k g st j st′ j′ r → (c : KladoLedgerAnswer) → c ≡ ofCalled r → CallTold k h st j c st′ j′
+tell-call k h g q st j st′ j′ r p c t =
+    telling Called KladoLedgerAnswer (λ x y. Calls k x st j st′ j′ y) ofCalled (ledgerOf h) g q r p c t
+
+pub tell-wipe : (h : KladoLedger) → (g : Ledger) → g ≡ ledgerOf h → (st st′ : List ℕ) → (r : Called)
+    → ((j : List ℕ) → Calls Wipe g st j st′ j r) → (c : KladoLedgerAnswer) → c ≡ ofCalled r → WipeTold h st c st′
+tell-wipe h g q st st′ r p c t =
+    telling Called KladoLedgerAnswer (λ x y. (j : List ℕ) → Calls Wipe x st j st′ j y) ofCalled (ledgerOf h) g q r p c t

@@ -1,0 +1,24 @@
+-- `capi::klado_ledger_wipe` answers what `Ledger::wipe` does. Assumes nothing.
+use Rattle.capi.proofs.LedgerTelling.{tell-wipe}
+use borrow.Author.Needs.{needs}
+use Rattle.capi.proofs.klado_ledger_wipe.Statement.{statement}
+use Rattle.capi.proofs.klado_ledger_wipe.Tie as tie
+
+ledger-of-requires : tie.Need-ledger-of-requires
+ledger-of-requires c κs = search needs
+
+wipe-requires : tie.Need-wipe-requires
+wipe-requires c κs = search needs
+
+of-called-requires : tie.Need-of-called-requires
+of-called-requires c κs = search needs
+
+same-length : tie.Need-same-length
+same-length c = search needs
+
+returns : tie.Need-returns
+returns c = tell-wipe _ _ (c .before .before .before .before .before .ledger-of .ensures) _ _ (c .before .before .before .wipe .result) (c .before .before .before .wipe .ensures) _ (c .of-called .ensures)
+
+pub klado-ledger-wipe-spec : {M : Type 1} → statement M
+klado-ledger-wipe-spec =
+    tie.close (tie.spec ledger-of-requires wipe-requires of-called-requires same-length returns)

@@ -1,0 +1,27 @@
+-- `capi::klado_set_audit` answers what `RangeBitset::audit` does. Assumes nothing.
+use Rattle.range_bitset.specs.Entries.{AuditEnsures}
+use Rattle.capi.specs.Told.{ofTested}
+use Rattle.range_bitset.specs.declared.Tested.{Tested}
+use Rattle.capi.specs.declared.KladoAnswer.{KladoAnswer}
+use Rattle.capi.proofs.Telling.{telling}
+use borrow.Author.Needs.{needs}
+use Rattle.capi.proofs.klado_set_audit.Statement.{statement}
+use Rattle.capi.proofs.klado_set_audit.Tie as tie
+
+set-of-requires : tie.Need-set-of-requires
+set-of-requires c κs = search needs
+
+audit-requires : tie.Need-audit-requires
+audit-requires c κs = search needs
+
+of-tested-requires : tie.Need-of-tested-requires
+of-tested-requires c κs = search needs
+
+returns : tie.Need-returns
+returns c =
+    let a = c .before .before .before .before .args in
+    telling Tested KladoAnswer (λ x. AuditEnsures x (a .storage .now)) ofTested _ _ (c .before .before .set-of .ensures) (c .before .audit .result) (c .before .audit .ensures) _ (c .of-tested .ensures)
+
+pub klado-set-audit-spec : {M : Type 1} → statement M
+klado-set-audit-spec =
+    tie.close (tie.spec set-of-requires audit-requires of-tested-requires returns)

@@ -1,0 +1,19 @@
+-- `capi::ledger_head` meets its contract. Assumes nothing.
+use mathlib.Core.Path.{ap}
+use Rattle.capi.specs.declared.KladoSet.{KladoSet}
+use Rattle.capi.specs.declared.KladoLedger.{KladoLedger}
+use borrow.Author.Needs.{needs}
+use Rattle.capi.proofs.ledger_head.Statement.{statement}
+use Rattle.capi.proofs.ledger_head.Tie as tie
+
+head-of-requires : tie.Need-head-of-requires
+head-of-requires c κs = search needs
+
+returns : tie.Need-returns
+returns c =
+    let a = c .before .args .ledger in
+    let w : KladoSet → KladoLedger = λ x. record { set = x; journal = a .journal; used = a .used } in
+    ap w (c .head-of .ensures)
+
+pub ledger-head-spec : {M : Type 1} → statement M
+ledger-head-spec = tie.close (tie.spec head-of-requires returns)

@@ -1,0 +1,19 @@
+-- `capi::ledger_of` meets its contract. Assumes nothing.
+use mathlib.Core.Path.{ap}
+use Rattle.range_bitset.specs.declared.RangeBitset.{RangeBitset}
+use Rattle.ledger.specs.declared.Ledger.{Ledger}
+use borrow.Author.Needs.{needs}
+use Rattle.capi.proofs.ledger_of.Statement.{statement}
+use Rattle.capi.proofs.ledger_of.Tie as tie
+
+set-of-requires : tie.Need-set-of-requires
+set-of-requires c κs = search needs
+
+returns : tie.Need-returns
+returns c =
+    let a = c .before .args .head in
+    let w : RangeBitset → Ledger = λ x. record { set = x; journal = a .journal; used = a .used } in
+    ap w (c .set-of .ensures)
+
+pub ledger-of-spec : {M : Type 1} → statement M
+ledger-of-spec = tie.close (tie.spec set-of-requires returns)

@@ -1,0 +1,55 @@
+-- `capi::of_opened` meets its contract: one line of ofOpened for each case. Assumes nothing.
+use mathlib.Core.Path.{ap, sym, _∙_}
+use Rattle.capi.specs.LedgerTold.{ofOpened}
+use Rattle.capi.specs.declared.KladoLedger.{KladoLedger}
+use Rattle.capi.specs.declared.KladoOpened.{KladoOpened}
+use borrow.Author.Needs.{needs}
+use Rattle.capi.proofs.of_opened.Statement.{statement}
+use Rattle.capi.proofs.of_opened.Tie as tie
+
+enum-known-answer : tie.Need-enum-known-answer
+enum-known-answer c = search needs
+
+ledger-head-requires : tie.Need-ledger-head-requires
+ledger-head-requires c κs = search needs
+
+enum-known-answer-2 : tie.Need-enum-known-answer-2
+enum-known-answer-2 c = search needs
+
+cast-unopened : tie.Need-cast-unopened
+cast-unopened c = search needs
+
+unopened-requires : tie.Need-unopened-requires
+unopened-requires c κs = search needs
+
+enum-known-answer-3 : tie.Need-enum-known-answer-3
+enum-known-answer-3 c = search needs
+
+unopened-requires-2 : tie.Need-unopened-requires-2
+unopened-requires-2 c κs = search needs
+
+returns : tie.Need-returns
+returns c =
+    let w : KladoLedger → KladoOpened = λ x. record { refused = 0; run = 0; head = x } in
+    ap w (c .ledger-head .ensures) ∙ sym (ap ofOpened (c .before .before .answer .given .1))
+
+returns-2 : tie.Need-returns-2
+returns-2 c = c .unopened .ensures ∙ sym (ap ofOpened (c .before .before .answer2 .given .1))
+
+returns-3 : tie.Need-returns-3
+returns-3 c = c .unopened2 .ensures ∙ sym (ap ofOpened (c .before .before .answer3 .given .1))
+
+pub of-opened-spec : {M : Type 1} → statement M
+of-opened-spec =
+    tie.close
+    (tie.spec
+    enum-known-answer
+    ledger-head-requires
+    enum-known-answer-2
+    cast-unopened
+    unopened-requires
+    enum-known-answer-3
+    unopened-requires-2
+    returns
+    returns-2
+    returns-3)

@@ -1,0 +1,65 @@
+-- C's numbers for the ledger's heads and answers, and the promise of each export: its answer is those numbers for an answer
+-- that the entry of ledger promises. Assumes nothing.
+use mathlib.Core.Bool.{false}
+use mathlib.Core.List.{List}
+use Prim.Native.Nat.{ℕ}
+use Rattle.range_bitset.specs.Answers as reply
+use Rattle.ledger.specs.Machine.{Call, Wipe}
+use Rattle.ledger.specs.Memory.{memory}
+use Rattle.ledger.specs.Entries.{Called as CallEnsures, OpenEnsures}
+use Rattle.ledger.specs.declared.Ledger.{Ledger}
+use Rattle.ledger.specs.declared.Called.{Called}
+use Rattle.ledger.specs.declared.Opened.{Opened}
+use Rattle.ledger.specs.declared.Opened.the-variants as opened
+use Rattle.capi.specs.declared.KladoLedger.{KladoLedger}
+use Rattle.capi.specs.declared.KladoLedgerAnswer.{KladoLedgerAnswer}
+use Rattle.capi.specs.declared.KladoAnswer.{KladoAnswer}
+use Rattle.capi.specs.declared.KladoOpened.{KladoOpened}
+use Rattle.capi.specs.Told.{Told, setOf, headOf, ofCounted}
+
+-- ---- heads: the same fields
+
+abbrev pub ledgerOf : KladoLedger → Ledger
+ledgerOf h = record { set = setOf (h .set); journal = h .journal; used = h .used }
+
+abbrev pub ledgerHead : Ledger → KladoLedger
+ledgerHead h = record { set = headOf (h .set); journal = h .journal; used = h .used }
+
+-- ---- answers: a refusal has its number, and 0 elsewhere but for the bad run's index
+
+abbrev pub unopened : ℕ → ℕ → KladoOpened
+unopened k i =
+    record {
+      refused = k;
+      run = i;
+      head = record { set = record { words = 0; len = 0; allocated = false }; journal = 0; used = 0 };
+    }
+
+abbrev pub ofOpened : Opened → KladoOpened
+ofOpened (opened.Head h) = record { refused = 0; run = 0; head = ledgerHead h }
+ofOpened (opened.Refused k) = unopened k 0
+ofOpened (opened.BadRun i) = unopened 8 i
+
+-- an answer with the head after it
+abbrev pub withLedger : KladoAnswer → KladoLedger → KladoLedgerAnswer
+withLedger a h = record { refused = a .refused; value = a .value; head = h }
+
+abbrev pub ofCalled : Called → KladoLedgerAnswer
+ofCalled a = withLedger (ofCounted (a .answer)) (ledgerHead (a .head))
+
+-- ---- the exports: new's answer is ofOpened of the ledger's newOf
+
+abbrev pub OpenTold : List ℕ → ℕ → List ℕ → List ℕ → KladoOpened → List ℕ → Type 0
+OpenTold file j st journal c st′ = Told Opened KladoOpened (λ r. OpenEnsures file j st journal r st′) ofOpened c
+
+-- what the ledger's entry promises of one call, with the slices before and after
+abbrev pub Calls : Call → Ledger → List ℕ → List ℕ → List ℕ → List ℕ → Called → Type 0
+Calls k h st j st′ j′ r = CallEnsures k (memory h st j) (reply.ofCounted (r .answer)) (memory (r .head) st′ j′)
+
+-- marking, clearing and take-back
+abbrev pub CallTold : Call → KladoLedger → List ℕ → List ℕ → KladoLedgerAnswer → List ℕ → List ℕ → Type 0
+CallTold k h st j c st′ j′ = Told Called KladoLedgerAnswer (Calls k (ledgerOf h) st j st′ j′) ofCalled c
+
+-- wipe is lent no journal: its promise is for any
+abbrev pub WipeTold : KladoLedger → List ℕ → KladoLedgerAnswer → List ℕ → Type 0
+WipeTold h st c st′ = Told Called KladoLedgerAnswer (λ r. (j : List ℕ) → Calls Wipe (ledgerOf h) st j st′ j r) ofCalled c
