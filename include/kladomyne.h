@@ -128,8 +128,9 @@ klado_found klado_set_next_zero(klado_set head, const uint64_t *storage, size_t 
 /* Takes every position out, and answers how many there were. `allocated` stays as it is. Refused: 2, 3. */
 klado_set_answer klado_set_clear(klado_set head, uint64_t *storage, size_t storage_len);
 
-/* The audit: 1 where head and storage are sound, which is what the other calls leave behind, else 0. On any memory.
- * Refused: 2, 3. */
+/* The audit: 1 where head and storage are sound, else 0: whether every number that the calls read agrees with the others. What
+ * the calls leave behind is sound. Numbers that no call reads, such as the words of an empty set, may hold anything. It answers
+ * so on any memory, and its work grows with the capacity. Refused: 2, 3. */
 klado_answer klado_set_audit(klado_set head, const uint64_t *storage, size_t storage_len);
 
 /* The head of a ledger. To be read by anyone, and to be made and changed by the calls below alone. */

@@ -65,12 +65,15 @@ int main(void) {
     for (int calls = 4; calls > 0; calls--)
         head = called("take back", klado_ledger_take_back(head, sheets, room, undo, LIMIT));
     printf("count 100..200           %u\n", klado_set_count(head.set, sheets, room, 100, 200).value);
+    sheets[1] ^= 1; /* a bit that no count knows of */
+    printf("audit, a bit changed     %u\n", klado_set_audit(head.set, sheets, room).value);
+    sheets[1] ^= 1;
     klado_ledger worse = head;
     worse.used = LIMIT + 1;
     called("mark, U above J", klado_ledger_mark(worse, sheets, room, undo, LIMIT, 0, 1));
     head = called("mark 0..4096", klado_ledger_mark(head, sheets, room, undo, LIMIT, 0, 4096));
     head = called("wipe", klado_ledger_wipe(head, sheets, room));
-    sheets[0] = 1; /* a bit that no count knows of */
-    printf("audit, a bit changed     %u\n", klado_set_audit(head.set, sheets, room).value);
+    sheets[1] ^= 1; /* in an empty set no sheet's bit is read */
+    printf("audit, a stale bit       %u\n", klado_set_audit(head.set, sheets, room).value);
     return 0;
 }

@@ -1,8 +1,8 @@
 /* ledger [CALLS [ROUNDS]]: ns a call of the ledger's mark, clear and take-back through include/kladomyne.h, at capacity 262,144
- * and a journal of 16,384 numbers. Each round makes CALLS calls on random ranges of up to SPAN - 1 positions, half of them
- * markings and half clearings in turn, and takes them all back, the last first, in batches that the journal has room
- * for. Markings, clearings and take-backs of a batch are timed apart; the least time of the rounds counts. The clock is read
- * once before and once after each row of calls of one kind. Take-back must leave the set as it was, which is checked. */
+ * and a journal of 16,384 numbers. The set is filled by random assignments first. Each round makes CALLS calls on random
+ * ranges in batches of 64, markings and clearings by turns, and takes each batch back, the last call first; the clock is read
+ * before and after each batch and its take-backs. The least time of the rounds counts. Take-back must leave as many positions
+ * as there were, which is checked. */
 #define _POSIX_C_SOURCE 199309L
 #include "kladomyne.h"
 
@@ -46,7 +46,7 @@ static void ranges(size_t span) {
 }
 
 /* One batch of markings (kind 0) or clearings (1), and its take-backs: adds to their times and to the journal numbers used. */
-static klado_ledger batch(klado_ledger head, size_t span, int kind, double spent[3], uint64_t *used) {
+static klado_ledger batch(klado_ledger head, size_t span, int kind, double spent[3], uint64_t used[2]) {
     uint32_t len = head.set.len;
     ranges(span);
     double begun = now();
@@ -54,7 +54,7 @@ static klado_ledger batch(klado_ledger head, size_t span, int kind, double spent
         head = go_on(kind == 0 ? klado_ledger_mark(head, sheets, room, undo, limit, starts[i], ends[i])
                                : klado_ledger_clear(head, sheets, room, undo, limit, starts[i], ends[i]));
     double done = now();
-    *used += head.used;
+    used[kind] += head.used;
     for (int i = 0; i < BATCH; i++) head = go_on(klado_ledger_take_back(head, sheets, room, undo, limit));
     spent[kind] += done - begun;
     spent[2] += now() - done;
@@ -63,33 +63,35 @@ static klado_ledger batch(klado_ledger head, size_t span, int kind, double spent
     exit(1);
 }
 
-static void row(size_t span, long calls, long rounds) {
+static void row(size_t fill, size_t span, long calls, long rounds) {
     klado_ledger head = klado_ledger_new(CAPACITY, limit, sheets, room, undo, limit).head;
     for (int i = 0; i < 131072; i++) { /* fill: the set alone, so that no call stands */
-        size_t start = draw() % CAPACITY, end = start + draw() % span;
+        size_t start = draw() % CAPACITY, end = start + draw() % fill;
         head.set = klado_set_assign(head.set, sheets, room, start, end < CAPACITY ? end : CAPACITY, draw() & 1).head;
     }
     double least[3] = {1e30, 1e30, 1e30};
-    uint64_t used = 0;
-    long batches = calls / BATCH;
+    uint64_t used[2] = {0, 0};
+    long batches = calls / BATCH / 2 * 2;
     for (long r = 0; r < rounds; r++) {
         double spent[3] = {0, 0, 0};
-        for (long b = 0; b < batches; b++) head = batch(head, span, (int)(b & 1), spent, &used);
+        for (long b = 0; b < batches; b++) head = batch(head, span, (int)(b & 1), spent, used);
         for (int k = 0; k < 3; k++)
             if (spent[k] < least[k]) least[k] = spent[k];
     }
     double of_kind = (double)batches * BATCH / 2, all = (double)batches * BATCH;
-    double runs = ((double)used / (all * (double)rounds) - 1) / 2;
-    printf("| up to %zu | %.2f | %.1f | %.1f | %.1f |\n", span, runs, least[0] / of_kind, least[1] / of_kind,
-           least[2] / all);
+    double runs[2];
+    for (int k = 0; k < 2; k++) runs[k] = ((double)used[k] / (of_kind * (double)rounds) - 1) / 2;
+    printf("| %zu | %zu | %.1f | %.2f | %.1f | %.2f | %.1f |\n", fill, span - 1, least[0] / of_kind, runs[0], least[1] / of_kind,
+           runs[1], least[2] / all);
 }
 
 int main(int count, char **words) {
-    long calls = count > 1 ? atol(words[1]) : 131072, rounds = count > 2 ? atol(words[2]) : 9;
+    long calls = count > 1 ? atol(words[1]) : 16384, rounds = count > 2 ? atol(words[2]) : 400;
     if (calls < 2 * BATCH || rounds < 1) return 2;
-    puts("| range | runs changed | mark | clear | take-back |\n|---|---|---|---|---|");
-    row(2, calls, rounds);
-    row(200, calls, rounds);
-    row(5000, calls, rounds);
+    puts("| filled by | range up to | mark | runs changed | clear | runs changed | take-back |\n|---|---|---|---|---|---|---|");
+    row(200, 2, calls, rounds);
+    row(200, 200, calls, rounds);
+    row(200, 5000, calls, rounds);
+    row(5000, 5000, calls, rounds);
     return 0;
 }

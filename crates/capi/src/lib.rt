@@ -360,10 +360,10 @@ fn of_called(called: Called) -> KladoLedgerAnswer
 {
     let answer = called.answer;
     let after = called.head;
-    let told = of_counted(answer);
+    let numbers = of_counted(answer);
     KladoLedgerAnswer {
-        refused: told.refused,
-        value: told.value,
+        refused: numbers.refused,
+        value: numbers.value,
         head: ledger_head(after),
     }
 }
