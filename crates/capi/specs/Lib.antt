@@ -1,3 +1,2 @@
--- The definitions of the exports for C: Told and LedgerTold, to believe. Assumes nothing.
+-- The definitions of the exports for C: Told, to believe. Assumes nothing.
 pub mod Told
-pub mod LedgerTold

@@ -1,8 +1,8 @@
--- `capi::klado_ledger_wipe` answers what `Ledger::wipe` does. Assumes nothing.
-use Rattle.capi.proofs.LedgerTelling.{tell-wipe}
+-- `capi_ledger::klado_ledger_wipe` answers what `Ledger::wipe` does. Assumes nothing.
+use Rattle.capi_ledger.proofs.LedgerTelling.{tell-wipe}
 use borrow.Author.Needs.{needs}
-use Rattle.capi.proofs.klado_ledger_wipe.Statement.{statement}
-use Rattle.capi.proofs.klado_ledger_wipe.Tie as tie
+use Rattle.capi_ledger.proofs.klado_ledger_wipe.Statement.{statement}
+use Rattle.capi_ledger.proofs.klado_ledger_wipe.Tie as tie
 
 ledger-of-requires : tie.Need-ledger-of-requires
 ledger-of-requires c κs = search needs

@@ -1,10 +1,10 @@
--- `capi::ledger_of` meets its contract. Assumes nothing.
+-- `capi_ledger::ledger_of` meets its contract. Assumes nothing.
 use mathlib.Core.Path.{ap}
 use Rattle.range_bitset.specs.declared.RangeBitset.{RangeBitset}
 use Rattle.ledger.specs.declared.Ledger.{Ledger}
 use borrow.Author.Needs.{needs}
-use Rattle.capi.proofs.ledger_of.Statement.{statement}
-use Rattle.capi.proofs.ledger_of.Tie as tie
+use Rattle.capi_ledger.proofs.ledger_of.Statement.{statement}
+use Rattle.capi_ledger.proofs.ledger_of.Tie as tie
 
 set-of-requires : tie.Need-set-of-requires
 set-of-requires c κs = search needs

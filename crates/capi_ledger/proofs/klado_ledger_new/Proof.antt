@@ -1,9 +1,9 @@
--- `capi::klado_ledger_new` answers what `Ledger::new` does. Assumes nothing.
+-- `capi_ledger::klado_ledger_new` answers what `Ledger::new` does. Assumes nothing.
 use mathlib.Core.Path.{ap, _∙_}
-use Rattle.capi.specs.LedgerTold.{ofOpened}
+use Rattle.capi_ledger.specs.LedgerTold.{ofOpened}
 use borrow.Author.Needs.{needs}
-use Rattle.capi.proofs.klado_ledger_new.Statement.{statement}
-use Rattle.capi.proofs.klado_ledger_new.Tie as tie
+use Rattle.capi_ledger.proofs.klado_ledger_new.Statement.{statement}
+use Rattle.capi_ledger.proofs.klado_ledger_new.Tie as tie
 
 new-requires : tie.Need-new-requires
 new-requires c κs = search needs

@@ -11,11 +11,11 @@ use Rattle.ledger.specs.declared.Ledger.{Ledger}
 use Rattle.ledger.specs.declared.Called.{Called}
 use Rattle.ledger.specs.declared.Opened.{Opened}
 use Rattle.ledger.specs.declared.Opened.the-variants as opened
-use Rattle.capi.specs.declared.KladoLedger.{KladoLedger}
-use Rattle.capi.specs.declared.KladoLedgerAnswer.{KladoLedgerAnswer}
+use Rattle.capi_ledger.specs.declared.KladoLedger.{KladoLedger}
+use Rattle.capi_ledger.specs.declared.KladoLedgerAnswer.{KladoLedgerAnswer}
 use Rattle.capi.specs.declared.KladoAnswer.{KladoAnswer}
-use Rattle.capi.specs.declared.KladoOpened.{KladoOpened}
+use Rattle.capi_ledger.specs.declared.KladoOpened.{KladoOpened}
 use Rattle.capi.specs.Told.{Told, setOf, headOf, ofCounted}
 
 -- ---- heads: the same fields
 

@@ -1,10 +1,10 @@
--- `capi::ledger_head` meets its contract. Assumes nothing.
+-- `capi_ledger::ledger_head` meets its contract. Assumes nothing.
 use mathlib.Core.Path.{ap}
 use Rattle.capi.specs.declared.KladoSet.{KladoSet}
-use Rattle.capi.specs.declared.KladoLedger.{KladoLedger}
+use Rattle.capi_ledger.specs.declared.KladoLedger.{KladoLedger}
 use borrow.Author.Needs.{needs}
-use Rattle.capi.proofs.ledger_head.Statement.{statement}
-use Rattle.capi.proofs.ledger_head.Tie as tie
+use Rattle.capi_ledger.proofs.ledger_head.Statement.{statement}
+use Rattle.capi_ledger.proofs.ledger_head.Tie as tie
 
 head-of-requires : tie.Need-head-of-requires
 head-of-requires c κs = search needs

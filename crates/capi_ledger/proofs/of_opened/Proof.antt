@@ -1,11 +1,11 @@
--- `capi::of_opened` meets its contract: one line of ofOpened for each case. Assumes nothing.
+-- `capi_ledger::of_opened` meets its contract: one line of ofOpened for each case. Assumes nothing.
 use mathlib.Core.Path.{ap, sym, _∙_}
-use Rattle.capi.specs.LedgerTold.{ofOpened}
-use Rattle.capi.specs.declared.KladoLedger.{KladoLedger}
-use Rattle.capi.specs.declared.KladoOpened.{KladoOpened}
+use Rattle.capi_ledger.specs.LedgerTold.{ofOpened}
+use Rattle.capi_ledger.specs.declared.KladoLedger.{KladoLedger}
+use Rattle.capi_ledger.specs.declared.KladoOpened.{KladoOpened}
 use borrow.Author.Needs.{needs}
-use Rattle.capi.proofs.of_opened.Statement.{statement}
-use Rattle.capi.proofs.of_opened.Tie as tie
+use Rattle.capi_ledger.proofs.of_opened.Statement.{statement}
+use Rattle.capi_ledger.proofs.of_opened.Tie as tie
 
 enum-known-answer : tie.Need-enum-known-answer
 enum-known-answer c = search needs

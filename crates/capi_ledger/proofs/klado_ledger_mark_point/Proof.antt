@@ -1,8 +1,8 @@
--- `capi::klado_ledger_mark_point` answers what `Ledger::mark_point` does. Assumes nothing.
-use Rattle.capi.proofs.LedgerTelling.{tell-call}
+-- `capi_ledger::klado_ledger_mark_point` answers what `Ledger::mark_point` does. Assumes nothing.
+use Rattle.capi_ledger.proofs.LedgerTelling.{tell-call}
 use borrow.Author.Needs.{needs}
-use Rattle.capi.proofs.klado_ledger_mark_point.Statement.{statement}
-use Rattle.capi.proofs.klado_ledger_mark_point.Tie as tie
+use Rattle.capi_ledger.proofs.klado_ledger_mark_point.Statement.{statement}
+use Rattle.capi_ledger.proofs.klado_ledger_mark_point.Tie as tie
 
 ledger-of-requires : tie.Need-ledger-of-requires
 ledger-of-requires c κs = search needs

@@ -1,8 +1,8 @@
--- `capi::of_called` meets its contract. Assumes nothing.
-use Rattle.capi.proofs.LedgerTelling.{tell-called}
+-- `capi_ledger::of_called` meets its contract. Assumes nothing.
+use Rattle.capi_ledger.proofs.LedgerTelling.{tell-called}
 use borrow.Author.Needs.{needs}
-use Rattle.capi.proofs.of_called.Statement.{statement}
-use Rattle.capi.proofs.of_called.Tie as tie
+use Rattle.capi_ledger.proofs.of_called.Statement.{statement}
+use Rattle.capi_ledger.proofs.of_called.Tie as tie
 
 of-counted-requires : tie.Need-of-counted-requires
 of-counted-requires c κs = search needs

@@ -14,11 +14,11 @@ use Rattle.ledger.specs.Entries.{refusalOf, openRefusal}
 use Rattle.ledger.specs.declared.Called.{Called}
 use Rattle.ledger.specs.declared.Opened.{Opened}
 use Rattle.ledger.specs.declared.Opened.the-variants as opened
-use Rattle.capi.specs.declared.KladoLedger.{KladoLedger}
-use Rattle.capi.specs.declared.KladoLedgerAnswer.{KladoLedgerAnswer}
-use Rattle.capi.specs.declared.KladoOpened.{KladoOpened}
-use Rattle.capi.specs.LedgerTold.{ledgerOf, ledgerHead, unopened, ofOpened, ofCalled, Calls, CallTold, WipeTold, OpenTold}
+use Rattle.capi_ledger.specs.declared.KladoLedger.{KladoLedger}
+use Rattle.capi_ledger.specs.declared.KladoLedgerAnswer.{KladoLedgerAnswer}
+use Rattle.capi_ledger.specs.declared.KladoOpened.{KladoOpened}
+use Rattle.capi_ledger.specs.LedgerTold.{ledgerOf, ledgerHead, unopened, ofOpened, ofCalled, Calls, CallTold, WipeTold, OpenTold}
 use Rattle.capi.proofs.Header.{counted-refused, counted-bare}
 
 -- ---- new and open
 

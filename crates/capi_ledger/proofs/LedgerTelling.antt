@@ -6,12 +6,12 @@ use Prim.Native.Nat.{ℕ}
 use Rattle.ledger.specs.Machine.{Call, Wipe}
 use Rattle.ledger.specs.declared.Ledger.{Ledger}
 use Rattle.ledger.specs.declared.Called.{Called}
-use Rattle.capi.specs.declared.KladoLedger.{KladoLedger}
-use Rattle.capi.specs.declared.KladoLedgerAnswer.{KladoLedgerAnswer}
+use Rattle.capi_ledger.specs.declared.KladoLedger.{KladoLedger}
+use Rattle.capi_ledger.specs.declared.KladoLedgerAnswer.{KladoLedgerAnswer}
 use Rattle.capi.specs.declared.KladoAnswer.{KladoAnswer}
 use Rattle.capi.specs.Told.{ofCounted}
-use Rattle.capi.specs.LedgerTold.{ledgerOf, ledgerHead, withLedger, ofCalled, Calls, CallTold, WipeTold}
+use Rattle.capi_ledger.specs.LedgerTold.{ledgerOf, ledgerHead, withLedger, ofCalled, Calls, CallTold, WipeTold}
 use Rattle.capi.proofs.Telling.{telling}
 
 -- the answer's numbers, then the head with them
 pub tell-called : (r : Called) → (k : KladoAnswer) → k ≡ ofCounted (r .answer) → (h : KladoLedger) → h ≡ ledgerHead (r .head)
