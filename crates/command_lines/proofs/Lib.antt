@@ -1,0 +1,11 @@
+-- The laws of this crate. Assumes nothing.
+pub mod Texts
+pub mod Fields
+pub mod NumberFields
+pub mod Pairs
+pub mod Meaning
+pub mod Decimals
+pub mod Filling
+pub mod Gathering
+pub mod Buffers
+mod Examples

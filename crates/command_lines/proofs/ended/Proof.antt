@@ -1,0 +1,26 @@
+-- `command_lines::ended` meets its contract: each return is the case of `finish` that its tests say. Assumes nothing.
+use borrow.Author.Tests.{eq-eqb, ne-eqb, lt-ltb, le-ltb}
+use native.Mathlib.Omega.{arith}
+use Prim.Native.Nat.{_^_}
+use Rattle.command_lines.specs.Reading.{finish}
+use borrow.Author.Needs.{needs}
+use Rattle.command_lines.proofs.ended.Statement.{statement}
+use Rattle.command_lines.proofs.ended.Tie as tie
+
+returns : tie.Need-returns
+unfolding finish
+returns c = simp (eq-eqb _ _ (c .if1 .taken))
+
+returns-2 : tie.Need-returns-2
+unfolding finish
+returns-2 c = simp (ne-eqb _ _ (c .before .if1 .left), le-ltb (c .before .before .args .value) (2 ^ 32) (omega arith))
+
+cast-t5 : tie.Need-cast-t5
+cast-t5 c = search needs
+
+returns-3 : tie.Need-returns-3
+unfolding finish
+returns-3 c = simp (ne-eqb _ _ (c .before .if1 .left), lt-ltb (c .before .before .args .value) (2 ^ 32) (omega arith))
+
+pub ended-spec : {M : Type 1} → statement M
+ended-spec = tie.close (tie.spec returns returns-2 cast-t5 returns-3)

@@ -1,0 +1,69 @@
+-- `command_lines::put` meets its contract. The invariant: storing what is left of the word gives the word stored whole. The
+-- measure: what is left of the word. Assumes nothing.
+use mathlib.Core.Path.{_≡_, refl, sym, _∙_}
+use Prim.Native.Nat.{_+_, _≤_, _-_}
+use native.Mathlib.Nat.{add-zero}
+use native.Mathlib.Omega.{arith}
+use lib.ListN.{length, drop, length-set}
+use lib.Seq.{sets}
+use Rattle.command_lines.proofs.Filling.{sets-next, sets-end}
+use Rattle.command_lines.proofs.put.Statement.{statement}
+use Rattle.command_lines.proofs.put.Tie as tie
+
+abbrev Inv-loop : tie.InvT-loop
+Inv-loop out₀ at word i₀ out i = (i ≤ length word) × (length out ≡ length out₀) × (sets out (at + i) (drop i word) ≡ sets out₀ at word)
+
+abbrev μ-loop : tie.MeasureT-loop
+μ-loop out₀ at word i₀ out i = length word - i
+
+loop-holds : tie.Need-loop-holds Inv-loop μ-loop
+loop-holds c = (omega arith, refl, rw add-zero)
+
+shared-slice-read-out : tie.Need-shared-slice-read-out Inv-loop μ-loop
+shared-slice-read-out c = omega arith
+
+add-out : tie.Need-add-out Inv-loop μ-loop
+add-out c = omega arith
+
+slice-write-out : tie.Need-slice-write-out Inv-loop μ-loop
+slice-write-out c = omega arith
+
+add-i : tie.Need-add-i Inv-loop μ-loop
+add-i c = omega arith
+
+loop-less : tie.Need-loop-less Inv-loop μ-loop
+loop-less c = omega arith
+
+loop-again : tie.Need-loop-again Inv-loop μ-loop
+loop-again c =
+    let i = c .before .before .loop .inv in (
+      omega arith,
+      simp length-set (i .1),
+      sym (sets-next _ _ _ _ (c .before .loop-test .taken)) ∙ i .2,
+    )
+
+add-result : tie.Need-add-result Inv-loop μ-loop
+add-result c = omega arith
+
+same-length : tie.Need-same-length Inv-loop μ-loop
+same-length c = c .before .loop .inv .1
+
+returns : tie.Need-returns Inv-loop μ-loop
+returns c = (omega arith, sym (sets-end _ _ _ _ (c .loop-test .left)) ∙ c .before .loop .inv .2)
+
+pub put-spec : {M : Type 1} → statement M
+put-spec =
+    tie.close
+    (tie.spec
+    Inv-loop
+    μ-loop
+    loop-holds
+    shared-slice-read-out
+    add-out
+    slice-write-out
+    add-i
+    loop-less
+    loop-again
+    add-result
+    same-length
+    returns)

@@ -1,0 +1,33 @@
+-- `command_lines::put_number_line` meets its contract. Assumes nothing.
+use mathlib.Core.List.{[], _∷_}
+use native.Mathlib.Omega.{arith}
+use lib.ListN.{length-append}
+use Rattle.command_lines.specs.Answers.{digits}
+use Rattle.command_lines.proofs.Filling.{set-newline}
+use borrow.Author.Needs.{needs}
+use Rattle.command_lines.proofs.put_number_line.Statement.{statement}
+use Rattle.command_lines.proofs.put_number_line.Tie as tie
+
+put-number-requires : tie.Need-put-number-requires
+put-number-requires c κs = search needs
+
+slice-write-out : tie.Need-slice-write-out
+slice-write-out c = search needs
+
+add-result : tie.Need-add-result
+add-result c = search needs
+
+same-length : tie.Need-same-length
+same-length c = search needs
+
+returns : tie.Need-returns
+returns c =
+    let a = c .before .before .before .before .before .args in
+    let e = c .before .before .put-number .ensures in (
+      omega (arith, e .0, length-append (digits (a .n)) (10 ∷ [])),
+      rw (e .0, e .1) (set-newline _ _ (a .n)),
+    )
+
+pub put-number-line-spec : {M : Type 1} → statement M
+put-number-line-spec =
+    tie.close (tie.spec put-number-requires slice-write-out add-result same-length returns)

@@ -1,0 +1,69 @@
+-- `command_lines::ranged` meets its contract: each arm is the case of `with` that its word and pair say. Assumes nothing.
+use borrow.Author.Needs.{needs}
+use Rattle.command_lines.proofs.ranged.Statement.{statement}
+use Rattle.command_lines.proofs.ranged.Tie as tie
+
+enum-known-numbers : tie.Need-enum-known-numbers
+enum-known-numbers c = search needs
+
+enum-told : tie.Need-enum-told
+enum-told c = search needs
+
+returns : tie.Need-returns
+returns c = search needs
+
+enum-told-2 : tie.Need-enum-told-2
+enum-told-2 c = search needs
+
+enum-told-3 : tie.Need-enum-told-3
+enum-told-3 c = search needs
+
+enum-told-4 : tie.Need-enum-told-4
+enum-told-4 c = search needs
+
+enum-told-5 : tie.Need-enum-told-5
+enum-told-5 c = search needs
+
+enum-told-6 : tie.Need-enum-told-6
+enum-told-6 c = search needs
+
+enum-told-7 : tie.Need-enum-told-7
+enum-told-7 c = search needs
+
+returns-2 : tie.Need-returns-2
+returns-2 c = simp (c .enum-told2 .given .1, c .before .before .before .numbers .given .1)
+
+returns-3 : tie.Need-returns-3
+returns-3 c = simp (c .enum-told3 .given .1, c .before .before .before .numbers .given .1)
+
+returns-4 : tie.Need-returns-4
+returns-4 c = simp (c .enum-told4 .given .1, c .before .before .before .numbers .given .1)
+
+returns-5 : tie.Need-returns-5
+returns-5 c = simp (c .enum-told5 .given .1, c .before .before .before .numbers .given .1)
+
+returns-6 : tie.Need-returns-6
+returns-6 c = simp (c .enum-told6 .given .1, c .before .before .before .numbers .given .1)
+
+returns-7 : tie.Need-returns-7
+returns-7 c = simp (c .enum-told7 .given .1, c .before .before .before .numbers .given .1)
+
+pub ranged-spec : {M : Type 1} → statement M
+ranged-spec =
+    tie.close
+    (tie.spec
+    enum-known-numbers
+    enum-told
+    returns
+    enum-told-2
+    enum-told-3
+    enum-told-4
+    enum-told-5
+    enum-told-6
+    enum-told-7
+    returns-2
+    returns-3
+    returns-4
+    returns-5
+    returns-6
+    returns-7)

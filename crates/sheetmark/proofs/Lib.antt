@@ -1,0 +1,2 @@
+-- The program's laws. Assumes nothing.
+pub mod Performing

@@ -1,0 +1,2 @@
+-- What a command does to the program's ledger. Assumes nothing.
+pub mod Performing

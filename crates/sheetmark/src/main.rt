@@ -1,0 +1,273 @@
+// `sheetmark`: reads commands, one a line, and prints one answer a line. A thin loop over proved parts: what a line means and
+// what is printed are command_lines', what a command does is the ledger's. Memory is fixed: a line buffer, one input and one
+// output buffer, the largest set's storage and the longest journal. Assumes that the kit's read and write do what they say.
+ghost use mathlib.Core.Path.{_≡_};
+ghost use mathlib.Core.Bool.{true, false};
+ghost use lib.ListN.{length};
+ghost use Rattle.range_bitset.specs.Answers.{ofCounted};
+ghost use Rattle.ledger.specs.Memory.{memory};
+ghost use Rattle.sheetmark.specs.Performing.{Performs, Starts, replyOf, foundReply};
+ghost use Rattle.ledger.specs.Entries.{newOf};
+use command_lines::Answer;
+use command_lines::Command;
+use ledger::Called;
+use ledger::Ledger;
+use ledger::Opened;
+use range_bitset::Counted;
+use range_bitset::Found;
+use range_bitset::RangeBitset;
+
+// What a command leaves: what is printed, the ledger's head, and whether there is a ledger.
+pub struct Performed {
+    pub answer: Answer,
+    pub head: Ledger,
+    pub live: bool,
+}
+
+fn of_counted(counted: Counted) -> Answer
+    ensures { λ r. ⌜ replyOf r ≡ ofCounted counted ⌝ }
+{
+    match counted {
+        Counted::Count(n) => Answer::Number(n),
+        Counted::Refused(k) => Answer::Refused(k),
+    }
+}
+
+// A position is below the capacity, so that 32 bits hold it; any other number is cut to them.
+fn of_found(found: Found) -> Answer
+    ensures { λ r. ⌜ replyOf r ≡ foundReply found ⌝ }
+{
+    match found {
+        Found::At(i) => Answer::Number((i % 0x1_0000_0000) as u32),
+        Found::Nothing => Answer::Nothing,
+        Found::Refused(k) => Answer::Refused(k),
+    }
+}
+
+fn called(done: Called) -> Performed
+    ensures { λ r. ⌜ (replyOf (r .answer) ≡ ofCounted (done .answer)) × (r .head ≡ done .head) × (r .live ≡ true) ⌝ }
+{
+    let answer = done.answer;
+    let head = done.head;
+    Performed {
+        answer: of_counted(answer),
+        head,
+        live: true,
+    }
+}
+
+// `new`: a fresh ledger, or the present one kept.
+fn start(
+    head: Ledger,
+    live: bool,
+    storage: &[u64],
+    journal: &[u32],
+    capacity: u32,
+    journal_len: u32,
+) -> Performed
+    ensures { λ r. ⌜ Starts (newOf capacity «journal_len» (length (now (storage .entry))) (length (now (journal .entry)))) live (memory head (now (storage .entry)) (now (journal .entry))) (r .answer) (r .live) (memory (r .head) (now (storage .entry)) (now (journal .entry))) ⌝ }
+{
+    match Ledger::new(capacity as usize, journal_len as usize, storage, journal) {
+        Opened::Head(fresh) => Performed {
+            answer: Answer::Number(0),
+            head: fresh,
+            live: true,
+        },
+        Opened::Refused(k) => Performed {
+            answer: Answer::Refused(k),
+            head,
+            live,
+        },
+        Opened::BadRun(_) => Performed {
+            answer: Answer::Refused(8),
+            head,
+            live,
+        },
+    }
+}
+
+// A command to the present ledger.
+fn perform_live(
+    head: Ledger,
+    storage: &mut [u64],
+    journal: &mut [u32],
+    command: Command,
+) -> Performed
+    ensures { λ r. ⌜ Performs command true (memory head (now (storage .entry)) (now (journal .entry))) (r .answer) (r .live) (memory (r .head) (now (storage .exit)) (now (journal .exit))) ⌝ }
+{
+    let set = head.set;
+    match command {
+        Command::New(capacity, length) => start(head, true, storage, journal, capacity, length),
+        Command::Mark(a, e) => called(head.mark(storage, journal, a as usize, e as usize)),
+        Command::Clear(a, e) => called(head.clear(storage, journal, a as usize, e as usize)),
+        Command::Count(a, e) => Performed {
+            answer: of_counted(set.count(storage, a as usize, e as usize)),
+            head,
+            live: true,
+        },
+        Command::One(a, e) => Performed {
+            answer: of_found(set.next_one(storage, a as usize, e as usize)),
+            head,
+            live: true,
+        },
+        Command::Zero(a, e) => Performed {
+            answer: of_found(set.next_zero(storage, a as usize, e as usize)),
+            head,
+            live: true,
+        },
+        Command::Back => called(head.take_back(storage, journal)),
+        Command::Wipe => called(head.wipe(storage)),
+        Command::Bad => Performed {
+            answer: Answer::BadLine,
+            head,
+            live: true,
+        },
+    }
+}
+
+// A command before an accepted `new`.
+fn perform_first(head: Ledger, storage: &[u64], journal: &[u32], command: Command) -> Performed
+    ensures { λ r. ⌜ Performs command false (memory head (now (storage .entry)) (now (journal .entry))) (r .answer) (r .live) (memory (r .head) (now (storage .entry)) (now (journal .entry))) ⌝ }
+{
+    if let Command::New(capacity, length) = command {
+        return start(head, false, storage, journal, capacity, length);
+    }
+    Performed {
+        answer: Answer::BadLine,
+        head,
+        live: false,
+    }
+}
+
+fn perform(
+    head: Ledger,
+    live: bool,
+    storage: &mut [u64],
+    journal: &mut [u32],
+    command: Command,
+) -> Performed
+    ensures { λ r. ⌜ Performs command live (memory head (now (storage .entry)) (now (journal .entry))) (r .answer) (r .live) (memory (r .head) (now (storage .exit)) (now (journal .exit))) ⌝ }
+{
+    if live {
+        perform_live(head, storage, journal, command)
+    } else {
+        perform_first(head, storage, journal, command)
+    }
+}
+
+// Writes the filled part of the output out.
+fn flush(out: &[u8], used: usize) {
+    if used <= out.len() {
+        io::write_all(1, &out[..used]);
+    }
+}
+
+// What goes from line to line: how far the line buffer and the output are filled, and the ledger.
+pub struct Desk {
+    pub kept: usize,
+    pub used: usize,
+    pub head: Ledger,
+    pub live: bool,
+}
+
+// Answers the line that the buffer holds.
+fn one_line(
+    desk: Desk,
+    line: &[u8],
+    out: &mut [u8],
+    storage: &mut [u64],
+    journal: &mut [u32],
+) -> Desk {
+    let kept = desk.kept;
+    let used = desk.used;
+    if kept > line.len() {
+        return desk;
+    }
+    let command = command_lines::parse(&line[..kept]);
+    let head = desk.head;
+    let done = perform(head, desk.live, storage, journal, command);
+    let answer = done.answer;
+    let next = done.head;
+    let mut at = used;
+    if !command_lines::has_room(out, used) {
+        flush(out, used);
+        at = 0;
+    }
+    Desk {
+        kept: 0,
+        used: command_lines::put_answer(out, at, answer),
+        head: next,
+        live: done.live,
+    }
+}
+
+// Answers the lines that end in a part of the input.
+fn part(
+    desk: Desk,
+    text: &[u8],
+    line: &mut [u8],
+    out: &mut [u8],
+    storage: &mut [u64],
+    journal: &mut [u32],
+) -> Desk {
+    let mut at = 0;
+    let mut now = desk;
+    while at < text.len() {
+        let found = command_lines::gather(text, at, line, now.kept);
+        at = found.at;
+        now.kept = found.kept;
+        if found.ended {
+            now = one_line(now, line, out, storage, journal);
+        }
+    }
+    now
+}
+
+// Reads and answers until the input ends. What is answered is written out before each read, so that it appears at once.
+fn serve(
+    input: &mut [u8],
+    line: &mut [u8],
+    out: &mut [u8],
+    storage: &mut [u64],
+    journal: &mut [u32],
+) {
+    let mut desk = Desk {
+        kept: 0,
+        used: 0,
+        head: Ledger {
+            set: RangeBitset {
+                words: 0,
+                len: 0,
+                allocated: false,
+            },
+            journal: 0,
+            used: 0,
+        },
+        live: false,
+    };
+    let mut turns = u64::MAX;
+    while turns > 0 {
+        turns -= 1;
+        let got = libc::read(0, input);
+        let n = io::count(got, input);
+        if n == 0 {
+            break;
+        }
+        desk = part(desk, &input[..n], line, out, storage, journal);
+        flush(out, desk.used);
+        desk.used = 0;
+    }
+    if desk.kept > 0 {
+        desk = one_line(desk, line, out, storage, journal);
+        flush(out, desk.used);
+    }
+}
+
+fn main() {
+    let mut input = io::large_buffer();
+    let mut out = io::large_buffer();
+    let mut line = [0u8; 32];
+    let mut storage = [0u64; 4290];
+    let mut journal = [0u32; 16384];
+    serve(&mut input, &mut line, &mut out, &mut storage, &mut journal);
+}
