@@ -2,14 +2,14 @@
 -- answer. Assumes nothing.
 use mathlib.Core.Path.{_≡_, refl, sym, ap, _∙_, subst}
 use mathlib.Core.Bool.{Bool, true, false}
-use mathlib.Core.Logic.{_⊎_, inl, inr}
+use mathlib.Core.Logic.{inl, inr}
 use mathlib.Core.List.{List, [], _∷_}
-use Prim.Native.Nat.{ℕ, _*_, _%_, _^_, _≤_, _<_}
+use Prim.Native.Nat.{ℕ, _*_, _≤_}
 use native.Mathlib.Omega.{arith}
 use lib.ListN.{length}
 use types.Run.{OneOf}
 use denote.Enum.Declared.{tagOf}
-use Rattle.positions.specs.Positions.{Positions, Found, At, None, first, count}
+use Rattle.positions.specs.Positions.{Positions, Found, At, first, count}
 use Rattle.positions.proofs.Searches.{Searched, hit, miss, first-means}
 use Rattle.range_bitset.specs.Answers.{Reply, Number, ofCounted, ofPlace, ofFound, refused, rangeRefusal}
 use Rattle.range_bitset.specs.Entries.{Answers, CountEnsures, NextEnsures}
@@ -102,9 +102,9 @@ cut-same s v a e n (place.Refused k) f m x = x
 pub found-answers : (h : RangeBitset) (st : List ℕ) (a e : ℕ) (v : Bool) (p : Place) (r : Reply) → NextEnsures v h st a e p → r ≡ foundReply p
     → Answers (rangeRefusal h (length st) e) h st (λ s. ofFound (first s v a e)) r
 found-answers h st a e v p r q x =
-    record
-      { refuses = ap refused x ∙ refuses-same p ∙ q .refuses
-      ; answers = λ z s y.
+    record {
+      refuses = ap refused x ∙ refuses-same p ∙ q .refuses;
+      answers = λ z s y.
           let room = range-accepted h st e z in
-          x ∙ cut-same s v a e (omega (arith, room .1, room .0 .most)) p (first s v a e) (first-means s v a e) (q .answers z s y)
-      }
+          x ∙ cut-same s v a e (omega (arith, room .1, room .0 .most)) p (first s v a e) (first-means s v a e) (q .answers z s y);
+    }

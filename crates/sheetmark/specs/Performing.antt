@@ -2,7 +2,6 @@
 -- Assumes nothing.
 use mathlib.Core.Path.{_≡_}
 use mathlib.Core.Bool.{Bool, true, false}
-use mathlib.Core.List.{List}
 use Prim.Native.Nat.{ℕ, _%_, _^_}
 use lib.ListN.{length}
 use Rattle.positions.specs.Positions.{count, first}
@@ -13,7 +12,6 @@ use Rattle.range_bitset.specs.declared.Found.the-variants as place
 use Rattle.ledger.specs.Machine.{Range, Back, Wipe}
 use Rattle.ledger.specs.Memory.{Memory, memory}
 use Rattle.ledger.specs.Entries.{Called, newOf}
-use Rattle.ledger.specs.declared.Ledger.{Ledger}
 use Rattle.ledger.specs.declared.Opened.{Opened}
 use Rattle.ledger.specs.declared.Opened.the-variants as opened
 use Rattle.command_lines.specs.declared.Command.{Command}

@@ -4,9 +4,6 @@ use lib.Seq.{length-take-le}
 use borrow.Author.Needs.{needs}
 use Rattle.sheetmark.proofs.flush.Statement.{statement}
 use Rattle.sheetmark.proofs.flush.Tie as tie
-use Rattle.sheetmark.proofs.flush.Reads as reads
-use Rattle.sheetmark.proofs.flush.Lts as lts
-use Rattle.io.proofs.write_all.Reads as write-all-reads
 
 slice-aggregate-write-all : tie.Need-slice-aggregate-write-all
 slice-aggregate-write-all c = sym (length-take-le _ _ (c .before .if1 .taken))

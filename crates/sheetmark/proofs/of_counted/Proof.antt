@@ -4,8 +4,6 @@ use mathlib.Core.Path.{sym, ap}
 use borrow.Author.Needs.{needs}
 use Rattle.sheetmark.proofs.of_counted.Statement.{statement}
 use Rattle.sheetmark.proofs.of_counted.Tie as tie
-use Rattle.sheetmark.proofs.of_counted.Reads as reads
-use Rattle.sheetmark.proofs.of_counted.Lts as lts
 
 enum-known-counted : tie.Need-enum-known-counted
 enum-known-counted c = search needs

@@ -4,8 +4,6 @@ use mathlib.Core.Path.{sym, ap}
 use borrow.Author.Needs.{needs}
 use Rattle.sheetmark.proofs.of_found.Statement.{statement}
 use Rattle.sheetmark.proofs.of_found.Tie as tie
-use Rattle.sheetmark.proofs.of_found.Reads as reads
-use Rattle.sheetmark.proofs.of_found.Lts as lts
 
 enum-known-found : tie.Need-enum-known-found
 enum-known-found c = search needs

@@ -4,13 +4,6 @@ use lib.Seq.{length-take-le}
 use borrow.Author.Needs.{needs}
 use Rattle.sheetmark.proofs.one_line.Statement.{statement}
 use Rattle.sheetmark.proofs.one_line.Tie as tie
-use Rattle.sheetmark.proofs.one_line.Reads as reads
-use Rattle.sheetmark.proofs.one_line.Lts as lts
-use Rattle.command_lines.proofs.has_room.Reads as has-room-reads
-use Rattle.command_lines.proofs.parse.Reads as parse-reads
-use Rattle.command_lines.proofs.put_answer.Reads as put-answer-reads
-use Rattle.sheetmark.proofs.flush.Reads as flush-reads
-use Rattle.sheetmark.proofs.perform.Reads as perform-reads
 
 returns : tie.Need-returns
 returns c = search needs

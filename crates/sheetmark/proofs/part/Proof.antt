@@ -7,10 +7,6 @@ use Prim.Native.Nat.{_-_}
 use mathlib.Core.Path.{_≡_, refl, _∙_}
 use Rattle.sheetmark.proofs.part.Statement.{statement}
 use Rattle.sheetmark.proofs.part.Tie as tie
-use Rattle.sheetmark.proofs.part.Reads as reads
-use Rattle.sheetmark.proofs.part.Lts as lts
-use Rattle.command_lines.proofs.gather.Reads as gather-reads
-use Rattle.sheetmark.proofs.one_line.Reads as one-line-reads
 
 abbrev Inv-loop : tie.InvT-loop
 Inv-loop text line₀ out₀ storage₀ journal₀ at₀ now₀ line out storage journal at now =

@@ -2,10 +2,6 @@
 use borrow.Author.Needs.{needs}
 use Rattle.sheetmark.proofs.perform.Statement.{statement}
 use Rattle.sheetmark.proofs.perform.Tie as tie
-use Rattle.sheetmark.proofs.perform.Reads as reads
-use Rattle.sheetmark.proofs.perform.Lts as lts
-use Rattle.sheetmark.proofs.perform_first.Reads as perform-first-reads
-use Rattle.sheetmark.proofs.perform_live.Reads as perform-live-reads
 
 perform-live-requires : tie.Need-perform-live-requires
 perform-live-requires c κs = search needs

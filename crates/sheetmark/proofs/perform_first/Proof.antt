@@ -3,9 +3,6 @@ use Rattle.sheetmark.proofs.Performing.{performed, bad-first}
 use borrow.Author.Needs.{needs}
 use Rattle.sheetmark.proofs.perform_first.Statement.{statement}
 use Rattle.sheetmark.proofs.perform_first.Tie as tie
-use Rattle.sheetmark.proofs.perform_first.Reads as reads
-use Rattle.sheetmark.proofs.perform_first.Lts as lts
-use Rattle.sheetmark.proofs.start.Reads as start-reads
 
 enum-known-command : tie.Need-enum-known-command
 enum-known-command c = search needs

@@ -4,19 +4,6 @@ use mathlib.Core.Path.{refl}
 use borrow.Author.Needs.{needs}
 use Rattle.sheetmark.proofs.perform_live.Statement.{statement}
 use Rattle.sheetmark.proofs.perform_live.Tie as tie
-use Rattle.sheetmark.proofs.perform_live.Reads as reads
-use Rattle.sheetmark.proofs.perform_live.Lts as lts
-use Rattle.ledger.proofs.Ledger.clear.Reads as clear-reads
-use Rattle.ledger.proofs.Ledger.mark.Reads as mark-reads
-use Rattle.ledger.proofs.Ledger.take_back.Reads as take-back-reads
-use Rattle.ledger.proofs.Ledger.wipe.Reads as wipe-reads
-use Rattle.range_bitset.proofs.RangeBitset.count.Reads as count-reads
-use Rattle.range_bitset.proofs.RangeBitset.next_one.Reads as next-one-reads
-use Rattle.range_bitset.proofs.RangeBitset.next_zero.Reads as next-zero-reads
-use Rattle.sheetmark.proofs.called.Reads as called-reads
-use Rattle.sheetmark.proofs.of_counted.Reads as of-counted-reads
-use Rattle.sheetmark.proofs.of_found.Reads as of-found-reads
-use Rattle.sheetmark.proofs.start.Reads as start-reads
 
 enum-known-command : tie.Need-enum-known-command
 enum-known-command c = search needs

@@ -6,13 +6,6 @@ use borrow.Author.Needs.{needs}
 use lib.ListN.{length}
 use Rattle.sheetmark.proofs.serve.Statement.{statement}
 use Rattle.sheetmark.proofs.serve.Tie as tie
-use Rattle.sheetmark.proofs.serve.Reads as reads
-use Rattle.sheetmark.proofs.serve.Lts as lts
-use Rattle.io.proofs.count.Reads as count-reads
-use Rattle.libc.proofs.read.Reads as read-reads
-use Rattle.sheetmark.proofs.flush.Reads as flush-reads
-use Rattle.sheetmark.proofs.one_line.Reads as one-line-reads
-use Rattle.sheetmark.proofs.part.Reads as part-reads
 
 abbrev Inv-loop : tie.InvT-loop
 Inv-loop input₀ line₀ out₀ storage₀ journal₀ desk₀ turns₀ input line out storage journal desk turns =

@@ -4,9 +4,6 @@ use mathlib.Core.Path.{refl, sym, _∙_}
 use borrow.Author.Needs.{needs}
 use Rattle.sheetmark.proofs.start.Statement.{statement}
 use Rattle.sheetmark.proofs.start.Tie as tie
-use Rattle.sheetmark.proofs.start.Reads as reads
-use Rattle.sheetmark.proofs.start.Lts as lts
-use Rattle.ledger.proofs.Ledger.new.Reads as new-reads
 
 new-requires : tie.Need-new-requires
 new-requires c κs = search needs
