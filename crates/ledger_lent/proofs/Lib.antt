@@ -1,0 +1,3 @@
+-- The laws of the lent forms. Assumes nothing.
+pub mod Forms
+pub mod Heads
