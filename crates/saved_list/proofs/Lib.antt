@@ -4,4 +4,5 @@ pub mod Rule
 pub mod Lists
 pub mod Answers
 pub mod Opening
+pub mod Steps
 mod Examples

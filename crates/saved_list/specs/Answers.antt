@@ -2,7 +2,7 @@
 -- number and values, and for each entry the answer that the bytes call for. Assumes nothing.
 use mathlib.Core.Bool.{cond}
 use mathlib.Core.List.{List, [], _∷_}
-use Prim.Native.Nat.{ℕ}
+use Prim.Native.Nat.{ℕ, _+_}
 use lib.Dec.{ltb}
 use Rattle.saved_list.specs.Format.{savedWords, savedCount, runAt, headed, whole, heldCount, firstBadHeld}
 use Rattle.saved_list.specs.declared.Header.{Header}
@@ -50,3 +50,7 @@ foundAnswer End = gives []
 
 unfoldable pub foundOf : List ℕ → ℕ → Answer
 foundOf bytes i = cond (ltb i (heldCount bytes)) (gives (runAt bytes i .start ∷ runAt bytes i .end ∷ [])) (gives [])
+
+-- the index after a step: one on where the bytes hold the run, else the same
+unfoldable pub indexAfter : List ℕ → ℕ → ℕ
+indexAfter bytes i = cond (ltb i (heldCount bytes)) (i + 1) i

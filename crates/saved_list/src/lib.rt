@@ -5,7 +5,7 @@ ghost use Prim.Native.Nat.{_+_, _*_, _≤_};
 ghost use lib.ListN.{length};
 ghost use Rattle.positions.specs.Runs.{run};
 ghost use Rattle.saved_list.specs.Format.{be16 as big16, be32 as big32, mark, begins, ruled};
-ghost use Rattle.saved_list.specs.Answers.{headerAnswer, headerOf, lengthAnswer, lengthOf, runsAnswer, runsOf, foundAnswer, foundOf};
+ghost use Rattle.saved_list.specs.Answers.{headerAnswer, headerOf, lengthAnswer, lengthOf, runsAnswer, runsOf, foundAnswer, foundOf, indexAfter};
 
 // The letters that a saved list begins with: compared on opening.
 const MARK: [u8; 3] = *b"MSL";
@@ -175,4 +175,57 @@ pub fn check_runs(file: &[u8]) -> RunCheck
         index += 1;
     }
     RunCheck::AllGood
+}
+
+// The run found, and the index that follows it: the same one where there is no run.
+pub struct Stepped {
+    pub run: FoundRun,
+    pub at: usize,
+}
+
+// The work of one step, on a slice and an index.
+pub fn step_at(file: &[u8], at: usize) -> Stepped
+    ensures { λ r. ⌜ (foundAnswer (r .run) ≡ foundOf (now (file .entry)) at) × (r .at ≡ indexAfter (now (file .entry)) at) ⌝ }
+{
+    match run_at(file, at) {
+        FoundRun::At(start, end) => Stepped {
+            run: FoundRun::At(start, end),
+            at: at + 1,
+        },
+        FoundRun::End => Stepped {
+            run: FoundRun::End,
+            at,
+        },
+    }
+}
+
+// A reader: the borrowed bytes and a run index.
+pub struct Runs<'a> {
+    pub file: &'a [u8],
+    pub at: usize,
+}
+
+// One step: gives the next run, or none, and moves the reader on by one where there is a run.
+pub fn step<'s, 'a>(r: &'s mut Runs<'a>) -> FoundRun
+    ensures { λ x. ⌜ (foundAnswer x ≡ foundOf (now (now (r .entry) .file)) (now (r .entry) .at))
+        × (now (r .exit) .file ≡ now (r .entry) .file)
+        × (now (r .exit) .at ≡ indexAfter (now (now (r .entry) .file)) (now (r .entry) .at)) ⌝ }
+{
+    let out = step_at(r.file, r.at);
+    r.at = out.at;
+    out.run
+}
+
+// The run that a reader stands at; the reader is passed by value.
+pub fn next<'a>(r: Runs<'a>) -> FoundRun
+    ensures { λ s. ⌜ foundAnswer s ≡ foundOf (now (r .entry .file)) (r .entry .at) ⌝ }
+{
+    run_at(r.file, r.at)
+}
+
+// A reader made in a local and read, behind plain parameters, so that covered code can run it.
+pub fn run_through(file: &[u8], at: usize) -> FoundRun
+    ensures { λ r. ⌜ foundAnswer r ≡ foundOf (now (file .entry)) at ⌝ }
+{
+    next(Runs { file, at })
 }

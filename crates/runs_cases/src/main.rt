@@ -1,0 +1,40 @@
+// Reads the runs of a small saved list through the reader that holds the bytes and a run index, and prints each run, then
+// what stands past the last one and far past it. `stdout` has the answers that 01's format gives.
+use libc::STDOUT_FILENO;
+use saved_list::FoundRun;
+
+fn say(text: &[u8]) {
+    io::write_all(STDOUT_FILENO, text);
+}
+
+fn say_run(found: FoundRun) {
+    match found {
+        FoundRun::At(start, end) => {
+            io::print_decimal(STDOUT_FILENO, start as u64);
+            say(b"..");
+            io::print_decimal(STDOUT_FILENO, end as u64);
+            say(b"\n");
+        }
+        FoundRun::End => say(b"none\n"),
+    }
+}
+
+// The run at an index, and the index after it.
+fn say_step(file: &[u8], at: usize) -> usize {
+    say_run(saved_list::run_through(file, at));
+    let next = saved_list::step_at(file, at);
+    next.at
+}
+
+fn main() {
+    // W 4, 3 runs: 1..5, 10..20, 64..256
+    let file =
+        *b"MSL\x00\x01\x00\x04\x00\x00\x00\x03\x00\x00\x00\x01\x00\x00\x00\x05\x00\x00\x00\x0a\x00\x00\x00\x14\x00\x00\x00\x40\x00\x00\x01\x00";
+    let at = say_step(&file, 0);
+    let at = say_step(&file, at);
+    let at = say_step(&file, at);
+    let at = say_step(&file, at);
+    io::print_decimal(STDOUT_FILENO, at as u64);
+    say(b"\n");
+    say_run(saved_list::run_through(&file, usize::MAX));
+}
