@@ -1,3 +1,4 @@
+-- `range_bitset::combined` meets its contract. Assumes nothing.
 use Rattle.range_bitset.proofs.combined.Statement.{statement}
 use Rattle.range_bitset.proofs.combined.Tie as tie
 

@@ -1,3 +1,4 @@
+-- `range_bitset::RangeBitset::idle` meets its contract. Assumes nothing.
 use borrow.Author.Needs.{needs}
 use Rattle.range_bitset.proofs.RangeBitset.idle.Statement.{statement}
 use Rattle.range_bitset.proofs.RangeBitset.idle.Tie as tie

@@ -1,3 +1,4 @@
+-- `range_bitset::RangeBitset::mixed_word` meets its contract. Assumes nothing.
 use borrow.Author.Needs.{needs}
 use mathlib.Core.Path.{_≡_}
 use mathlib.Core.Bool.{true, false}

@@ -1,3 +1,4 @@
+-- `range_bitset::RangeBitset::word` meets its contract. Assumes nothing.
 use borrow.Author.Needs.{needs}
 use mathlib.Core.Path.{_≡_, sym, _∙_}
 use Rattle.range_bitset.specs.declared.State.the-variants.{Empty, Mixed, Full}
