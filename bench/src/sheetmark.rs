@@ -81,48 +81,7 @@ impl Ledger {
         if value { self.set.next_one(from, end) } else { self.set.next_zero(from, end) }.unwrap_or(end)
     }
 
-    /// How many runs of the range a call would change, counted up to `most`.
-    #[cfg(not(one_pass))]
-    fn count_runs(&self, start: usize, end: usize, value: bool, most: usize) -> usize {
-        let mut runs = 0;
-        let mut from = start;
-        while runs < most {
-            let at = self.find(from, end, !value);
-            if at >= end {
-                break;
-            }
-            from = self.find(at, end, value);
-            runs += 1;
-        }
-        runs
-    }
-
-    /// As the port does it: refused before anything is written, else recorded and then done.
-    #[cfg(not(one_pass))]
-    fn assign(&mut self, start: usize, end: usize, value: bool) -> Answer {
-        let free = self.limit - self.journal.len();
-        if free == 0 {
-            return Answer::Refused(6);
-        }
-        let most = (free - 1) / 2;
-        let runs = self.count_runs(start, end, value, most + 1);
-        if runs > most {
-            return Answer::Refused(6);
-        }
-        let mut from = start;
-        for _ in 0..runs {
-            let at = self.find(from, end, !value);
-            from = self.find(at, end, value);
-            self.journal.push(at as u32);
-            self.journal.push(from as u32);
-        }
-        self.journal.push(2 * runs as u32 + value as u32);
-        Answer::Number(self.set.assign(start, end, value))
-    }
-
-    /// Another way, which the port's journal does not allow, since a refused call leaves all its numbers: recorded while it is
-    /// searched, and cut off again where the journal has no room.
-    #[cfg(one_pass)]
+    /// Recorded while it is searched, in one pass, and cut off again where the journal has no room.
     fn assign(&mut self, start: usize, end: usize, value: bool) -> Answer {
         let used = self.journal.len();
         let mut runs = 0;

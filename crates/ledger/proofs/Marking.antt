@@ -1,19 +1,19 @@
 -- Laws for marking and clearing: a search's place, the runs that a call changes walked by two searches each, counted and
 -- written into the journal. Assumes nothing.
-use mathlib.Core.Path.{_≡_, refl, ap, _∙_}
+use mathlib.Core.Path.{_≡_, refl, sym, ap, _∙_}
 use mathlib.Core.Logic.{_⊎_, inl, inr}
 use mathlib.Core.Bool.{Bool, true, false, not, Bool·not-not}
 use mathlib.Core.List.{List, [], _∷_, _++_, append-assoc, append-nil}
-use Prim.Native.Nat.{ℕ, suc, _+_, _*_, _%_, _≤_, _<_}
+use Prim.Native.Nat.{ℕ, suc, _+_, _*_, _-_, _%_, _≤_, _<_}
 use native.Mathlib.Omega.{arith}
-use borrow.Author.Tests.{leb-true, leb-false}
+use borrow.Author.Tests.{leb-true, leb-false, le-leb, lt-leb}
 use lib.Dec.{leb}
 use lib.ListN.{length, getD, take, set, length-set}
 use lib.Seq.{getD-set-other, take-suc-set}
 use Rattle.positions.specs.Positions.{Positions, Found, At, None, first, one}
 use Rattle.positions.specs.Runs.{Run, run, placeOr, runEnd, changedRuns}
 use Rattle.positions.proofs.Searches.{Searched, hit, miss, first-means}
-use Rattle.positions.proofs.Changes.{changed-none, changed-next}
+use Rattle.positions.proofs.Changes.{changed-none, changed-next, changed-few}
 use Rattle.positions.proofs.Runs.{runs-empty}
 use Rattle.range_bitset.specs.Represents.{Represents}
 use Rattle.range_bitset.specs.Answers.{ofPlace, ofFound, rangeRefusal}
@@ -22,8 +22,9 @@ use Rattle.range_bitset.specs.declared.RangeBitset.{RangeBitset}
 use Rattle.range_bitset.specs.declared.Found.{Found as Place}
 use Rattle.range_bitset.specs.declared.Found.the-variants as place
 use Rattle.range_bitset.proofs.Heads.{range-accepted}
+use Rattle.ledger.specs.Machine.{needOf}
 use Rattle.ledger.specs.Journal.{pairs, entry, written}
-use Rattle.ledger.specs.Inner.{Finds, CountsRuns, WritesCall, placeIn}
+use Rattle.ledger.specs.Inner.{Finds, RunsFit, CountsRuns, WritesRuns, WritesCall, placeIn}
 
 -- ---- a search
 
@@ -89,24 +90,36 @@ pub counting-most : (h : RangeBitset) (st : List ℕ) (a e : ℕ) (v : Bool) (mo
     → n ≤ most → most ≤ n → Counting h st a e v n from → CountsRuns h st a e v most n
 counting-most h st a e v most n from l m k = record { most-runs = l; counted = λ z s r. omega (arith, k z s r) }
 
+-- ---- fitting
+
+-- a range of at most 2 · most positions
+pub fits-short : (h : RangeBitset) (st : List ℕ) (a e : ℕ) (v : Bool) (most : ℕ) → e - a ≤ 2 * most → RunsFit h st a e v most true
+fits-short h st a e v most l z s r = sym (le-leb (length (changedRuns s a e v)) most (omega (arith, changed-few s a e v)))
+
+pub fits-counted : (h : RangeBitset) (st : List ℕ) (a e : ℕ) (v : Bool) (most n : ℕ) → CountsRuns h st a e v (most + 1) n → RunsFit h st a e v most (leb n most)
+fits-counted h st a e v most n c z s r = by (leb n most) refl
+  where
+    by : (b : Bool) → leb n most ≡ b → b ≡ leb (length (changedRuns s a e v)) most
+    by true x = sym (le-leb (length (changedRuns s a e v)) most (omega (arith, leb-true n most x, c .counted z s r)))
+    by false x = sym (lt-leb (length (changedRuns s a e v)) most (omega (arith, leb-false n most x, c .counted z s r)))
+
 -- ---- writing
 
 -- i runs are written from u on, and the rest lie from `from` on; j₀ is the journal before, j as it is now
-pub record Writing (h : RangeBitset) (st : List ℕ) (a e : ℕ) (v : Bool) (u runs : ℕ) (j₀ j : List ℕ) (i from : ℕ) : Type 0 where
+pub record Writing (h : RangeBitset) (st : List ℕ) (a e : ℕ) (v : Bool) (u : ℕ) (j₀ j : List ℕ) (i from : ℕ) : Type 0 where
   pub same-length : length j ≡ length j₀
   pub others : (k : ℕ) → (k < u) ⊎ (u + 2 * i ≤ k) → getD j k 0 ≡ getD j₀ k 0
-  pub left : rangeRefusal h (length st) e ≡ 0 → (s : Positions) → Represents h st s → runs ≡ length (changedRuns s a e v)
-      → i + length (changedRuns s from e v) ≡ runs
-  pub so-far : rangeRefusal h (length st) e ≡ 0 → (s : Positions) → Represents h st s → runs ≡ length (changedRuns s a e v)
+  pub left : Counting h st a e v i from
+  pub so-far : rangeRefusal h (length st) e ≡ 0 → (s : Positions) → Represents h st s
       → take (u + 2 * i) j ++ pairs (changedRuns s from e v) ≡ take u j₀ ++ pairs (changedRuns s a e v)
 
-pub writing-start : (h : RangeBitset) (st : List ℕ) (a e : ℕ) (v : Bool) (u runs : ℕ) (j : List ℕ) → Writing h st a e v u runs j j 0 a
-writing-start h st a e v u runs j =
+pub writing-start : (h : RangeBitset) (st : List ℕ) (a e : ℕ) (v : Bool) (u : ℕ) (j : List ℕ) → Writing h st a e v u j j 0 a
+writing-start h st a e v u j =
     record {
       same-length = refl;
       others = λ k l. refl;
-      left = λ z s r n. omega arith;
-      so-far = λ z s r n. let p : u + 2 * 0 ≡ u = omega arith in rw p;
+      left = counting-start h st a e v;
+      so-far = λ z s r. let p : u + 2 * 0 ≡ u = omega arith in rw p;
     }
 
 -- two numbers written at a place
@@ -129,39 +142,29 @@ place-le s v a e = by (first s v a e) (first-means s v a e)
     by f (hit i m) = omega (arith, m .high)
     by f (miss m) = omega arith
 
--- the run that is written next: there is one, and both its ends fit 32 bits
+-- the run that is written next, both its ends in 32 bits
 written-next : (h : RangeBitset) (st : List ℕ) (e : ℕ) (v : Bool) (s : Positions) (from p q x y : ℕ) → rangeRefusal h (length st) e ≡ 0
     → p ≡ placeOr e (first s (not v) from e) → q ≡ placeOr e (first s v p e) → x ≡ p % 4294967296 → y ≡ q % 4294967296
-    → 0 < length (changedRuns s from e v) → changedRuns s from e v ≡ run x y ∷ changedRuns s q e v
-written-next h st e v s from p q x y z k l m n some = by (leb e p) refl
-  where
-    bounds : (p ≤ e) × (q ≤ e) × (e ≤ 262144)
-    bounds =
-        let b = range-accepted h st e z in
-        (omega (arith, place-le s (not v) from e), omega (arith, place-le s v p e), omega (arith, b .0 .most, b .1))
+    → p < e → changedRuns s from e v ≡ run x y ∷ changedRuns s q e v
+written-next h st e v s from p q x y z k l m n some =
+    let b = range-accepted h st e z in
+    let t : e ≤ 262144 = omega (arith, b .0 .most, b .1) in
+    let u : x ≡ p = omega (arith, place-le s (not v) from e) in
+    let w : y ≡ q = omega (arith, place-le s v p e) in
+    rw (u, w) (next-run s from e v p q k l some)
 
-    by : (t : Bool) → leb e p ≡ t → changedRuns s from e v ≡ run x y ∷ changedRuns s q e v
-    by true t = absurd (omega (arith, ap length (no-run s from e v p k (leb-true e p t))))
-    by false t =
-        let u : x ≡ p = omega (arith, bounds) in
-        let w : y ≡ q = omega (arith, bounds) in
-        rw (u, w) (next-run s from e v p q k l (leb-false e p t))
-
-pub writing-next : (h : RangeBitset) (st : List ℕ) (a e : ℕ) (v : Bool) (u runs : ℕ) (j₀ j : List ℕ) (i from p q x y at : ℕ)
-    → at ≡ u + 2 * i → at + 1 < length j → i < runs → Finds h st from e (not v) p → Finds h st p e v q
-    → x ≡ p % 4294967296 → y ≡ q % 4294967296 → Writing h st a e v u runs j₀ j i from
-    → Writing h st a e v u runs j₀ (set (set j at x) (at + 1) y) (i + 1) q
-writing-next h st a e v u runs j₀ j i from p q x y at o f g k l m n w =
+pub writing-next : (h : RangeBitset) (st : List ℕ) (a e : ℕ) (v : Bool) (u : ℕ) (j₀ j : List ℕ) (i from p q x y at : ℕ)
+    → at ≡ u + 2 * i → at + 1 < length j → p < e → Finds h st from e (not v) p → Finds h st p e v q
+    → x ≡ p % 4294967296 → y ≡ q % 4294967296 → Writing h st a e v u j₀ j i from
+    → Writing h st a e v u j₀ (set (set j at x) (at + 1) y) (i + 1) q
+writing-next h st a e v u j₀ j i from p q x y at o f g k l m n w =
     record {
       same-length = length-set (set j at x) (at + 1) y ∙ length-set j at x ∙ w .same-length;
       others = rest;
-      left = λ z s r t. omega (arith, w .left z s r t, ap length (follows z s r t));
-      so-far = λ z s r t. joined s (follows z s r t) (w .so-far z s r t);
+      left = counting-next h st a e v i from p q k l g (w .left);
+      so-far = λ z s r. joined s (written-next h st e v s from p q x y z (k z s r) (l z s r) m n g) (w .so-far z s r);
     }
   where
-    follows : rangeRefusal h (length st) e ≡ 0 → (s : Positions) → Represents h st s → runs ≡ length (changedRuns s a e v) → changedRuns s from e v ≡ run x y ∷ changedRuns s q e v
-    follows z s r t = written-next h st e v s from p q x y z (k z s r) (l z s r) m n (omega (arith, w .left z s r t))
-
     rest : (c : ℕ) → (c < u) ⊎ (u + 2 * (i + 1) ≤ c) → getD (set (set j at x) (at + 1) y) c 0 ≡ getD j₀ c 0
     rest c (inl b) = apart j at x y c (inl (omega arith)) ∙ w .others c (inl b)
     rest c (inr b) = apart j at x y c (inr (omega arith)) ∙ w .others c (inr (omega arith))
@@ -173,25 +176,56 @@ writing-next h st a e v u runs j₀ j i from p q x y at o f g k l m n w =
         let b : u + 2 * (i + 1) ≡ at + 2 = omega arith in
         rw (b, two j at x y f, append-assoc (take at j) (x ∷ y ∷ []) (pairs (changedRuns s q e v)), o) (rw c at d)
 
-pub writing-done : (h : RangeBitset) (st : List ℕ) (a e : ℕ) (v : Bool) (u runs : ℕ) (j₀ j : List ℕ) (i from x at : ℕ)
-    → at ≡ u + 2 * i → at < length j → i ≡ runs → x ≡ 2 * runs + one v → Writing h st a e v u runs j₀ j i from
-    → WritesCall h st a e v u runs j₀ (set j at x)
-unfolding written
-writing-done h st a e v u runs j₀ j i from x at o f g k w =
-    record { others = rest; written-is = λ z s r t. closed s t (w .left z s r t) (w .so-far z s r t) }
+-- the loop ends where no run is left, as far as all of them fit
+writing-ends : (h : RangeBitset) (st : List ℕ) (a e : ℕ) (v : Bool) (u most : ℕ) (j₀ j : List ℕ) (i from : ℕ) → i ≤ most
+    → (rangeRefusal h (length st) e ≡ 0 → (s : Positions) → Represents h st s → length (changedRuns s a e v) ≤ most → length (changedRuns s from e v) ≡ 0)
+    → Writing h st a e v u j₀ j i from → WritesRuns h st a e v u most i j₀ j
+writing-ends h st a e v u most j₀ j i from l none w =
+    record {
+      most-runs = l;
+      others = w .others;
+      all-runs = λ z s r t. omega (arith, w .left z s r, none z s r t);
+      written-are = λ z s r t. closed s (none z s r t) (w .so-far z s r);
+    }
   where
-    rest : (c : ℕ) → (c < u) ⊎ (u + (2 * runs + 1) ≤ c) → getD (set j at x) c 0 ≡ getD j₀ c 0
-    rest c (inl b) = getD-set-other j at c x 0 (λ z. omega arith) ∙ w .others c (inl b)
-    rest c (inr b) = getD-set-other j at c x 0 (λ z. omega arith) ∙ w .others c (inr (omega arith))
-
     empty : (rs : List Run) → length rs ≡ 0 → pairs rs ≡ []
     empty [] b = refl
     empty (r ∷ rs) b = absurd (omega arith)
 
-    closed : (s : Positions) → runs ≡ length (changedRuns s a e v) → i + length (changedRuns s from e v) ≡ runs
-        → take (u + 2 * i) j ++ pairs (changedRuns s from e v) ≡ take u j₀ ++ pairs (changedRuns s a e v)
-        → take (u + (2 * runs + 1)) (set j at x) ≡ take u j₀ ++ entry (changedRuns s a e v) v
-    closed s t b d =
-        let n : u + (2 * runs + 1) ≡ suc at = omega arith in
+    closed : (s : Positions) → length (changedRuns s from e v) ≡ 0 → take (u + 2 * i) j ++ pairs (changedRuns s from e v) ≡ take u j₀ ++ pairs (changedRuns s a e v)
+        → take (u + 2 * i) j ≡ take u j₀ ++ pairs (changedRuns s a e v)
+    closed s b d = rw (← d, empty (changedRuns s from e v) b, append-nil (take (u + 2 * i) j))
+
+pub writing-done : (h : RangeBitset) (st : List ℕ) (a e : ℕ) (v : Bool) (u most : ℕ) (j₀ j : List ℕ) (i from p : ℕ)
+    → Finds h st from e (not v) p → e ≤ p → i ≤ most → Writing h st a e v u j₀ j i from → WritesRuns h st a e v u most i j₀ j
+writing-done h st a e v u most j₀ j i from p x g l w =
+    writing-ends h st a e v u most j₀ j i from l (λ z s r t. ap length (no-run s from e v p (x z s r) g)) w
+
+pub writing-most : (h : RangeBitset) (st : List ℕ) (a e : ℕ) (v : Bool) (u most : ℕ) (j₀ j : List ℕ) (i from : ℕ)
+    → i ≤ most → most ≤ i → Writing h st a e v u j₀ j i from → WritesRuns h st a e v u most i j₀ j
+writing-most h st a e v u most j₀ j i from l g w =
+    writing-ends h st a e v u most j₀ j i from l (λ z s r t. omega (arith, w .left z s r)) w
+
+-- the closing number behind the runs
+pub writing-closed : (h : RangeBitset) (st : List ℕ) (a e : ℕ) (v : Bool) (u most : ℕ) (j₀ j : List ℕ) (n x at u′ : ℕ)
+    → at ≡ u + 2 * n → at < length j → x ≡ 2 * n + one v → u′ ≡ at + 1 → WritesRuns h st a e v u most n j₀ j
+    → WritesCall h st a e v u most u′ j₀ (set j at x)
+unfolding written needOf
+writing-closed h st a e v u most j₀ j n x at u′ o f k g w =
+    record {
+      most-used = omega (arith, w .most-runs);
+      others = rest;
+      in-use = λ z s r t. omega (arith, w .all-runs z s r t);
+      written-is = λ z s r t. closed s (w .all-runs z s r t) (w .written-are z s r t);
+    }
+  where
+    rest : (c : ℕ) → (c < u) ⊎ (u′ ≤ c) → getD (set j at x) c 0 ≡ getD j₀ c 0
+    rest c (inl b) = getD-set-other j at c x 0 (λ z. omega arith) ∙ w .others c (inl b)
+    rest c (inr b) = getD-set-other j at c x 0 (λ z. omega arith) ∙ w .others c (inr (omega arith))
+
+    closed : (s : Positions) → n ≡ length (changedRuns s a e v) → take (u + 2 * n) j ≡ take u j₀ ++ pairs (changedRuns s a e v)
+        → take u′ (set j at x) ≡ take u j₀ ++ entry (changedRuns s a e v) v
+    closed s b d =
+        let m : u′ ≡ suc at = omega arith in
         let y : x ≡ 2 * length (changedRuns s a e v) + one v = omega arith in
-        rw (n, take-suc-set j at x f, y, o, ← append-assoc (take u j₀) (pairs (changedRuns s a e v)) ((2 * length (changedRuns s a e v) + one v) ∷ []), ← d, empty (changedRuns s from e v) (omega arith), append-nil (take (u + 2 * i) j))
+        rw (m, take-suc-set j at x f, y, o, d) (append-assoc (take u j₀) (pairs (changedRuns s a e v)) ((2 * length (changedRuns s a e v) + one v) ∷ []))

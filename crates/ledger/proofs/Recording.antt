@@ -1,11 +1,11 @@
 -- Laws for marking and clearing as calls: one for each return of `assign`, with the machine's step there. Assumes nothing.
 use mathlib.Core.Path.{_≡_, refl, sym, ap, _∙_}
 use mathlib.Core.Logic.{inl, inr}
-use mathlib.Core.Bool.{Bool, true}
+use mathlib.Core.Bool.{Bool, true, false}
 use mathlib.Core.List.{List}
 use Prim.Native.Nat.{ℕ, _+_, _*_, _-_, _/_, _≤_, _<_}
 use native.Mathlib.Omega.{arith}
-use borrow.Author.Tests.{le-leb, lt-leb, ne-eqb}
+use borrow.Author.Tests.{le-leb, lt-leb, leb-true, leb-false, ne-eqb}
 use lib.Dec.{leb}
 use lib.ListN.{length, take}
 use Rattle.positions.specs.Positions.{Positions, assigned}
@@ -24,7 +24,7 @@ use Rattle.ledger.specs.Machine.{Machine, Range, setOf, used, needOf, st
 use Rattle.ledger.specs.Journal.{journalOf}
 use Rattle.ledger.specs.Memory.{Memory, memory, lentRefusal, callRefusal, Holds}
 use Rattle.ledger.specs.Entries.{Called, flagAfter}
-use Rattle.ledger.specs.Inner.{CountsRuns, WritesCall}
+use Rattle.ledger.specs.Inner.{RunsFit, WritesCall}
 use Rattle.ledger.specs.declared.Ledger.{Ledger}
 use Rattle.ledger.proofs.Machines.{stayed, went, step-outside, step-full, step-range, kept-step, set-after-range, needs-added, journal-added}
 use Rattle.ledger.proofs.Refusals.{LentEnough, lent-accepted, accepted-lent, set-accepts, range-accepts, ledger-set, good-again}
@@ -125,22 +125,24 @@ module _ (h : Ledger) (st j : List ℕ) (a e : ℕ) (v : Bool) where
   unfolding needOf
   none-left r h′ p q l n o = full r h′ p q l n (λ s x. omega arith)
 
-  -- the runs counted up to one more than fit are more than fit
-  pub too-many : (runs most : ℕ) (r : Counted) (h′ : Ledger) → r ≡ counted.Refused 6 → h′ ≡ h → lentRefusal h (length st) (length j) ≡ 0
-      → e ≤ capacityOf (h .set) → most ≡ (h .journal - h .used - 1) / 2 → CountsRuns (h .set) st a e v (most + 1) runs → most < runs
+  -- more runs than fit
+  pub too-many : (most : ℕ) (fit : Bool) (r : Counted) (h′ : Ledger) → r ≡ counted.Refused 6 → h′ ≡ h → lentRefusal h (length st) (length j) ≡ 0
+      → e ≤ capacityOf (h .set) → most ≡ (h .journal - h .used - 1) / 2 → RunsFit (h .set) st a e v most fit → fit ≡ false
       → Called (Range a e v) before (ofCounted r) (memory h′ st j)
   unfolding needOf
-  too-many runs most r h′ p q l n o c d = full r h′ p q l n (λ s x. omega (arith, c .counted (accepted l n) s x))
+  too-many most fit r h′ p q l n o c d =
+      full r h′ p q l n
+      (λ s x. omega (arith, leb-false (length (changedRuns s a e v)) most (sym (c (accepted l n) s x) ∙ d)))
 
   -- ---- done: the runs are recorded, then the range is given its value
 
   -- the head afterwards
   abbrev pub moved : RangeBitset → ℕ → Ledger
-  moved set runs = record { set = set; journal = h .journal; used = h .used + (2 * runs + 1) }
+  moved set u′ = record { set = set; journal = h .journal; used = u′ }
 
-  module _ (runs most : ℕ) (j′ st′ : List ℕ) (r : Assigned) (lent : lentRefusal h (length st) (length j) ≡ 0)
+  module _ (u′ most : ℕ) (j′ st′ : List ℕ) (r : Assigned) (lent : lentRefusal h (length st) (length j) ≡ 0)
       (end-within : e ≤ capacityOf (h .set)) (some : h .used ≡ h .journal → ⊥) (most-is : most ≡ (h .journal - h .used - 1) / 2)
-      (counts : CountsRuns (h .set) st a e v (most + 1) runs) (fit : runs ≤ most) (writes : WritesCall (h .set) st a e v (h .used) runs j j′)
+      (fit : Bool) (fits : RunsFit (h .set) st a e v most fit) (all-fit : fit ≡ true) (writes : WritesCall (h .set) st a e v (h .used) most u′ j j′)
       (same-journal : length j′ ≡ length j) (changes : AssignEnsures (h .set) st a e v r st′) (same-storage : length st′ ≡ length st) where
     enough : LentEnough h (length st) (length j)
     enough = lent-accepted h (length st) (length j) lent
@@ -148,16 +150,14 @@ module _ (h : Ledger) (st j : List ℕ) (a e : ℕ) (v : Bool) where
     passes : rangeRefusal (h .set) (length st) e ≡ 0
     passes = accepted lent end-within
 
-    room : h .used + (2 * runs + 1) ≤ h .journal
-    room = omega (arith, enough .used-most, some)
+    room : u′ ≤ h .journal
+    room = omega (arith, enough .used-most, some, writes .most-used)
 
-    -- every run was counted, so that the numbers written are those needed
-    all-counted : (s : Positions) → Represents (h .set) st s → runs ≡ length (changedRuns s a e v)
-    all-counted s x = omega (arith, counts .counted passes s x)
+    few : (s : Positions) → Represents (h .set) st s → length (changedRuns s a e v) ≤ most
+    few s x = leb-true (length (changedRuns s a e v)) most (sym (fits passes s x) ∙ all-fit)
 
-    need-is : (s : Positions) → Represents (h .set) st s → 2 * runs + 1 ≡ needOf s a e v
-    unfolding needOf
-    need-is s x = omega (arith, all-counted s x)
+    need-is : (s : Positions) → Represents (h .set) st s → u′ ≡ h .used + needOf s a e v
+    need-is s x = writes .in-use passes s x (few s x)
 
     goes : (m : Machine) → Holds before m → step m (Range a e v) ≡ went m (Range a e v)
     goes m x =
@@ -165,15 +165,15 @@ module _ (h : Ledger) (st j : List ℕ) (a e : ℕ) (v : Bool) where
         (omega (arith, x .journal-length, x .in-use, room, need-is (setOf m) (x .set)))
 
     abbrev next : Memory
-    next = memory (moved (r .head) runs) st′ j′
+    next = memory (moved (r .head) u′) st′ j′
 
     set-next : (m : Machine) → Holds before m → Represents (r .head) st′ (assigned (setOf m) a e v)
     set-next m x = changes .represents passes (setOf m) (x .set)
 
-    lent-next : (m : Machine) → Holds before m → LentEnough (moved (r .head) runs) (length st′) (length j′)
+    lent-next : (m : Machine) → Holds before m → LentEnough (moved (r .head) u′) (length st′) (length j′)
     lent-next m x =
         record {
-          good = good-again (moved (r .head) runs) good-set (enough .journal-most) room;
+          good = good-again (moved (r .head) u′) good-set (enough .journal-most) room;
           journal-most = enough .journal-most;
           used-most = room;
           long = rw (same-storage, changes .same-words) (enough .long);
@@ -185,22 +185,22 @@ module _ (h : Ledger) (st j : List ℕ) (a e : ℕ) (v : Bool) where
             good-after (h .set) (r .head) (ledger-set h (enough .good)) (changes .same-words)
             (omega (arith, set-next m x .counted, count-le (assigned (setOf m) a e v) 0 (capacityOf (r .head))))
 
-    in-use-next : (m : Machine) → Holds before m → h .used + (2 * runs + 1) ≡ used (nextOf m (Range a e v))
+    in-use-next : (m : Machine) → Holds before m → u′ ≡ used (nextOf m (Range a e v))
     unfolding used
     in-use-next m x = rw (needs-added (setOf m) (m .standing) a e v) (omega (arith, x .in-use, need-is (setOf m) (x .set)))
 
     journal-next : (m : Machine) → Holds before m
-        → take (h .used + (2 * runs + 1)) j′ ≡ journalOf (m .opened) (nextOf m (Range a e v) .standing)
+        → take u′ j′ ≡ journalOf (m .opened) (nextOf m (Range a e v) .standing)
     unfolding setOf
     journal-next m x =
         rw (journal-added (m .opened) (m .standing) a e v, ← x .journal)
-        (writes .written-is passes (setOf m) (x .set) (all-counted (setOf m) (x .set)))
+        (writes .written-is passes (setOf m) (x .set) (few (setOf m) (x .set)))
 
     holds-next : (m : Machine) → Holds before m → Holds next (nextOf m (Range a e v))
     holds-next m x =
         record {
           kept = rw (goes m x) at (kept-step m (Range a e v) (x .kept));
-          lent = accepted-lent (moved (r .head) runs) (length st′) (length j′) (lent-next m x);
+          lent = accepted-lent (moved (r .head) u′) (length st′) (length j′) (lent-next m x);
           capacity = ap (λ (n : ℕ). 64 * n) (changes .same-words) ∙ x .capacity;
           journal-length = x .journal-length;
           in-use = in-use-next m x;

@@ -5,7 +5,7 @@ use mathlib.Core.Logic.{_⊎_}
 use mathlib.Core.Bool.{Bool, true, false, _&&_, _||_, cond}
 use mathlib.Core.List.{List, [], _∷_, _++_, map}
 use Prim.Native.Nat.{ℕ, zero, suc, _+_, _*_, _-_, _/_, _%_, _≤_, _<_, min}
-use lib.Dec.{eqb, ltb}
+use lib.Dec.{eqb, ltb, leb}
 use lib.ListN.{length, getD, take, drop}
 use Rattle.positions.specs.Positions.{Positions, assigned, first, changedCount}
 use Rattle.positions.specs.Runs.{Run, run, placeOr, changedRuns, assignedRuns}
@@ -18,6 +18,7 @@ use Rattle.range_bitset.specs.declared.Counted.the-variants as counted
 use Rattle.range_bitset.specs.declared.Found.{Found as Place}
 use Rattle.range_bitset.specs.declared.Found.the-variants as place
 use Rattle.saved_list.specs.Format.{runsAfter, heldCount}
+use Rattle.ledger.specs.Machine.{needOf}
 use Rattle.ledger.specs.Memory.{Memory, memory}
 use Rattle.ledger.specs.Entries.{refusalOf}
 use Rattle.ledger.specs.History.{Chain}
@@ -29,7 +30,7 @@ use Rattle.ledger.specs.declared.replay.Replayed.{Replayed}
 use Rattle.ledger.specs.declared.replay.Replayed.the-variants as replayed
 use Rattle.ledger.specs.declared.Last.{Last}
 use Rattle.ledger.specs.declared.Last.the-variants as last
-use Rattle.ledger.specs.Journal.{written}
+use Rattle.ledger.specs.Journal.{pairs, written}
 
 -- for every set that the memory represents, within capacity: the first position of a..e of value v, or e
 abbrev pub Finds : RangeBitset → List ℕ → ℕ → ℕ → Bool → ℕ → Type 0
@@ -40,11 +41,28 @@ pub record CountsRuns (h : RangeBitset) (st : List ℕ) (a e : ℕ) (v : Bool) (
   pub most-runs : r ≤ most
   pub counted : rangeRefusal h (length st) e ≡ 0 → (s : Positions) → Represents h st s → r ≡ min most (length (changedRuns s a e v))
 
--- a call's runs and its closing number, written into the journal from u on
-pub record WritesCall (h : RangeBitset) (st : List ℕ) (a e : ℕ) (v : Bool) (u runs : ℕ) (j j′ : List ℕ) : Type 0 where
-  pub others : (i : ℕ) → (i < u) ⊎ (u + (2 * runs + 1) ≤ i) → getD j′ i 0 ≡ getD j i 0
-  pub written-is : rangeRefusal h (length st) e ≡ 0 → (s : Positions) → Represents h st s → runs ≡ length (changedRuns s a e v)
-      → take (u + (2 * runs + 1)) j′ ≡ take u j ++ written s a e v
+-- whether giving a..e the value v changes at most `most` runs
+abbrev pub RunsFit : RangeBitset → List ℕ → ℕ → ℕ → Bool → ℕ → Bool → Type 0
+RunsFit h st a e v most r =
+    rangeRefusal h (length st) e ≡ 0 → (s : Positions) → Represents h st s → r ≡ leb (length (changedRuns s a e v)) most
+
+-- the runs that a call changes, written into the journal from u on where they are at most `most`
+pub record WritesRuns (h : RangeBitset) (st : List ℕ) (a e : ℕ) (v : Bool) (u most runs : ℕ) (j j′ : List ℕ) : Type 0 where
+  pub most-runs : runs ≤ most
+  pub others : (i : ℕ) → (i < u) ⊎ (u + 2 * runs ≤ i) → getD j′ i 0 ≡ getD j i 0
+  pub all-runs : rangeRefusal h (length st) e ≡ 0 → (s : Positions) → Represents h st s → length (changedRuns s a e v) ≤ most
+      → runs ≡ length (changedRuns s a e v)
+  pub written-are : rangeRefusal h (length st) e ≡ 0 → (s : Positions) → Represents h st s → length (changedRuns s a e v) ≤ most
+      → take (u + 2 * runs) j′ ≡ take u j ++ pairs (changedRuns s a e v)
+
+-- the same with the call's closing number: u′ numbers are then in use
+pub record WritesCall (h : RangeBitset) (st : List ℕ) (a e : ℕ) (v : Bool) (u most u′ : ℕ) (j j′ : List ℕ) : Type 0 where
+  pub most-used : u′ ≤ u + (2 * most + 1)
+  pub others : (i : ℕ) → (i < u) ⊎ (u′ ≤ i) → getD j′ i 0 ≡ getD j i 0
+  pub in-use : rangeRefusal h (length st) e ≡ 0 → (s : Positions) → Represents h st s → length (changedRuns s a e v) ≤ most
+      → u′ ≡ u + needOf s a e v
+  pub written-is : rangeRefusal h (length st) e ≡ 0 → (s : Positions) → Represents h st s → length (changedRuns s a e v) ≤ most
+      → take u′ j′ ≡ take u j ++ written s a e v
 
 -- n runs read from a place of the journal on
 abbrev pub readRuns : List ℕ → ℕ → ℕ → List Run

@@ -13,7 +13,7 @@ ghost use Rattle.range_bitset.specs.declared.Counted.the-variants as counted;
 ghost use Rattle.ledger.specs.Machine.{Range, Back, Wipe, point};
 ghost use Rattle.ledger.specs.Memory.{memory, goodLedger, lentRefusal, wipeRefusal, callRefusal};
 ghost use Rattle.ledger.specs.Entries.{Called as CallEnsures, lentEnough, newOf, OpenEnsures};
-ghost use Rattle.ledger.specs.Inner.{Finds, CountsRuns, WritesCall, readRuns, AssignsRuns, OpensRuns, lastOf, placeIn, countIn};
+ghost use Rattle.ledger.specs.Inner.{Finds, RunsFit, CountsRuns, WritesCall, WritesRuns, readRuns, AssignsRuns, OpensRuns, lastOf, placeIn, countIn};
 
 pub mod replay; // replay.rt: a list of calls run through the entries
 
@@ -281,11 +281,10 @@ impl Ledger {
             return Self::declined(head, 6);
         }
         let most = (limit - used - 1) / 2;
-        let runs = Self::count_runs(set, storage, start, end, value, most + 1);
-        if runs > most {
+        if !Self::runs_fit(set, storage, start, end, value, most) {
             return Self::declined(head, 6);
         }
-        Self::write_call(set, storage, journal, used, start, end, value, runs);
+        let recorded = Self::write_call(set, storage, journal, used, start, end, value, most);
         let done = set.assign(storage, start, end, value);
         let answer = done.answer;
         let next = done.head;
@@ -294,7 +293,7 @@ impl Ledger {
             head: Ledger {
                 set: next,
                 journal: limit,
-                used: used + (2 * runs + 1),
+                used: recorded,
             },
         }
     }
@@ -339,6 +338,28 @@ impl Ledger {
         }
     }
 
+    // Whether a call on `start..end` changes at most `most` runs. Two runs have a position between them, so a short range
+    // need not be searched.
+    fn runs_fit(
+        set: RangeBitset,
+        storage: &[u64],
+        start: usize,
+        end: usize,
+        value: bool,
+        most: u32,
+    ) -> bool
+        requires { ⌜ most ≤ 8192 ⌝ }
+        ensures { λ r. ⌜ RunsFit set (now (storage .entry)) start end value most r ⌝ }
+    {
+        if end <= start {
+            return true;
+        }
+        if end - start <= 2 * most as usize {
+            return true;
+        }
+        Self::count_runs(set, storage, start, end, value, most + 1) <= most
+    }
+
     // How many runs of `start..end` a call would change, counted up to `most`.
     fn count_runs(
         set: RangeBitset,
@@ -363,7 +384,8 @@ impl Ledger {
         runs
     }
 
-    // Write the first `runs` runs of `start..end` that a call changes, and its closing number, from `used` on.
+    // Write the runs of `start..end` that a call changes, at most `most`, and its closing number, from `used` on. Answers how
+    // many numbers are then in use.
     fn write_call(
         set: RangeBitset,
         storage: &[u64],
@@ -372,23 +394,46 @@ impl Ledger {
         start: usize,
         end: usize,
         value: bool,
-        runs: u32,
-    )
-        requires { ⌜ (used + (2 * runs + 1) ≤ length (now journal)) × (used + (2 * runs + 1) ≤ 16384) ⌝ }
-        ensures { λ r. ⌜ WritesCall set (now (storage .entry)) start end value used runs (now (journal .entry)) (now (journal .exit)) ⌝ }
+        most: u32,
+    ) -> u32
+        requires { ⌜ (used + (2 * most + 1) ≤ length (now journal)) × (used + (2 * most + 1) ≤ 16384) ⌝ }
+        ensures { λ r. ⌜ WritesCall set (now (storage .entry)) start end value used most r (now (journal .entry)) (now (journal .exit)) ⌝ }
+    {
+        let runs = Self::write_runs(set, storage, journal, used, start, end, value, most);
+        let last = used + 2 * runs;
+        journal[last as usize] = Self::packed(runs, value);
+        last + 1
+    }
+
+    // Write the runs of `start..end` that a call changes, at most `most`, from `used` on. Answers how many they are.
+    fn write_runs(
+        set: RangeBitset,
+        storage: &[u64],
+        journal: &mut [u32],
+        used: u32,
+        start: usize,
+        end: usize,
+        value: bool,
+        most: u32,
+    ) -> u32
+        requires { ⌜ (used + 2 * most ≤ length (now journal)) × (used + 2 * most ≤ 16384) ⌝ }
+        ensures { λ r. ⌜ WritesRuns set (now (storage .entry)) start end value used most r (now (journal .entry)) (now (journal .exit)) ⌝ }
     {
         let mut slot = used as usize;
-        let mut i = 0u32;
+        let mut runs = 0u32;
         let mut from = start;
-        while i < runs {
+        while runs < most {
             let at = Self::find(set, storage, from, end, !value);
+            if at >= end {
+                return runs;
+            }
             from = Self::find(set, storage, at, end, value);
             journal[slot] = Self::low_u32(at);
             journal[slot + 1] = Self::low_u32(from);
             slot += 2;
-            i += 1;
+            runs += 1;
         }
-        journal[slot] = Self::packed(runs, value);
+        runs
     }
 
     // The call that the last of `used` journal numbers closes. Any journal is safe: no more runs than it can hold.

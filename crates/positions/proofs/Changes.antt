@@ -2,15 +2,16 @@
 use mathlib.Core.Path.{_≡_, refl, sym, ap, _∙_, subst}
 use mathlib.Core.Bool.{Bool, true, false, not, cond, _&&_, Bool·not-not, true≢false, false≢true}
 use mathlib.Core.List.{List, [], _∷_, _++_}
-use Prim.Native.Nat.{ℕ, suc, _-_, _≤_, _<_}
+use Prim.Native.Nat.{ℕ, suc, _*_, _-_, _≤_, _<_}
 use native.Mathlib.Omega.{arith}
-use borrow.Author.Tests.{ltb-true, ltb-false}
-use lib.Dec.{ltb}
+use borrow.Author.Tests.{ltb-true, ltb-false, leb-true, leb-false}
+use lib.Dec.{ltb, leb}
+use lib.ListN.{length}
 use Rattle.positions.specs.Positions.{Positions, assigned, within, differ, lacking, Found, At, None, first, changedCount}
 use Rattle.positions.specs.Runs.{Run, run, runs, changedRuns, placeOr, runEnd, assignedRuns, covered, lengths, Ascending}
 use Rattle.positions.proofs.Ranges.{within-in, within-behind}
 use Rattle.positions.proofs.Counts.{count-all}
-use Rattle.positions.proofs.Runs.{runs-only, runs-next, runs-lengths, runs-ascending, runs-covered, assignedRuns-at}
+use Rattle.positions.proofs.Runs.{runs-only, runs-next, runs-empty, runs-lengths, runs-ascending, runs-covered, assignedRuns-at}
 use Rattle.positions.proofs.Searches.{IsFirst, Searched, hit, miss, first-means}
 
 differ-same : (v : Bool) → differ v v ≡ false
@@ -70,6 +71,24 @@ changed-next s a e v p h = go (first s (not v) a e) h (first-means s (not v) a e
         let y : q ≡ p = cc in
         last (subst (λ (k : ℕ). IsFirst s (not v) a e k) y m) (first s (not (not v)) p e) (first-means s (not (not v)) p e)
     go f x (miss m) = absurd (let z : _≡_ {A = ℕ} 0 1 = cc in omega arith)
+
+-- two runs have a position between them, so that n positions have at most (n + 1) / 2 runs
+
+few-runs : (b e : ℕ) (rs : List Run) → Ascending b e rs → b ≤ suc e → 2 * length rs ≤ suc e - b
+few-runs b e [] p h = omega arith
+few-runs b e (r ∷ rs) p h = omega (arith, few-runs (suc (r .end)) e rs (p .3) (omega arith))
+
+pub changed-few : (s : Positions) (a e : ℕ) (v : Bool) → 2 * length (changedRuns s a e v) ≤ suc (e - a)
+unfolding changedRuns
+changed-few s a e v = go (leb a e) refl
+  where
+    go : (b : Bool) → leb a e ≡ b → 2 * length (runs (lacking s v) a e) ≤ suc (e - a)
+    go true x =
+        let h : a ≤ e = leb-true a e x in
+        omega (arith, few-runs a e (runs (lacking s v) a e) (runs-ascending (lacking s v) a e h) (omega arith))
+    go false x =
+        let h : e < a = leb-false a e x in
+        omega (arith, ap length (runs-empty (lacking s v) a e (omega arith)))
 
 -- taking back, run by run
 

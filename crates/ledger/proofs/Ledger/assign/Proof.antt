@@ -1,10 +1,11 @@
 -- `assign` meets its contract: one law of Recording for each return. `b` is where the lent slices were accepted, `f` where the
--- journal had room, `n` where the runs were counted, `w` where they were written, `a` where the range was given its value.
+-- journal had a number left, `n` where it had room for the runs, `w` where they were written, `a` where the range was given its value.
 -- Assumes nothing.
 use Rattle.ledger.proofs.Recording.{not-lent, outside, none-left, too-many, recorded}
 use Rattle.ledger.proofs.Refusals.{lent-accepted}
 use native.Mathlib.Omega.{arith}
 use mathlib.Core.Path.{sym, _∙_}
+use borrow.Author.Tests.{not-true, not-false}
 use borrow.Author.Needs.{needs}
 use Rattle.ledger.proofs.Ledger.assign.Statement.{statement}
 use Rattle.ledger.proofs.Ledger.assign.Tie as tie
@@ -53,11 +54,11 @@ sub-most-2 c =
     let l = lent-accepted _ _ _ (sym (b .before .refusal .ensures) ∙ b .if1 .left) in
     omega arith
 
-add-count-runs : tie.Need-add-count-runs
-add-count-runs c = search needs
-
-count-runs-requires : tie.Need-count-runs-requires
-count-runs-requires c κs = search needs
+runs-fit-requires : tie.Need-runs-fit-requires
+runs-fit-requires c κs =
+    let b = c .before .before .before .before .before in
+    let l = lent-accepted _ _ _ (sym (b .before .refusal .ensures) ∙ b .if1 .left) in
+    omega arith
 
 declined-requires-4 : tie.Need-declined-requires-4
 declined-requires-4 c κs = search needs
@@ -69,34 +70,17 @@ returns-4 : tie.Need-returns-4
 returns-4 c =
     let n = c .before .before in
     let b = n .before .before .before .before .before .before in
-    too-many _ _ _ _ _ _ _ _ (c .declined4 .result .answer) (c .declined4 .result .head) (c .declined4 .ensures .0) (c .declined4 .ensures .1) (sym (b .before .refusal .ensures) ∙ b .if1 .left) (omega arith) (omega arith) (n .count-runs .ensures) (omega arith)
+    too-many _ _ _ _ _ _ _ _ (c .declined4 .result .answer) (c .declined4 .result .head) (c .declined4 .ensures .0) (c .declined4 .ensures .1) (sym (b .before .refusal .ensures) ∙ b .if1 .left) (omega arith) (omega arith) (n .runs-fit .ensures) (not-true _ (c .before .if4 .taken))
 
 write-call-requires : tie.Need-write-call-requires
 write-call-requires c κs =
-    let b = c .before .before .before .before .before .before .before .before .before in
+    let n = c .before .before .before in
+    let b = n .before .before .before .before .before .before in
     let l = lent-accepted _ _ _ (sym (b .before .refusal .ensures) ∙ b .if1 .left) in
     (omega arith, omega arith)
 
 assign-requires : tie.Need-assign-requires
 assign-requires c κs = search needs
-
-mul-t19 : tie.Need-mul-t19
-mul-t19 c =
-    let b = c .before .before .before .before .before .before .before .before .before .before .before .before .before .before .before .before .before in
-    let l = lent-accepted _ _ _ (sym (b .before .refusal .ensures) ∙ b .if1 .left) in
-    omega arith
-
-add-t20 : tie.Need-add-t20
-add-t20 c =
-    let b = c .before .before .before .before .before .before .before .before .before .before .before .before .before .before .before .before .before in
-    let l = lent-accepted _ _ _ (sym (b .before .refusal .ensures) ∙ b .if1 .left) in
-    omega arith
-
-add-t30 : tie.Need-add-t30
-add-t30 c =
-    let b = c .before .before .before .before .before .before .before .before .before .before .before .before .before .before .before .before .before in
-    let l = lent-accepted _ _ _ (sym (b .before .refusal .ensures) ∙ b .if1 .left) in
-    omega arith
 
 same-length-2 : tie.Need-same-length-2
 same-length-2 c = search needs
@@ -111,7 +95,7 @@ returns-5 c =
     let n = w .before .before .before .before in
     let f = n .before .before in
     let b = f .before .before .before .before in
-    recorded _ _ _ _ _ _ _ _ _ _ (a .assign .result) (sym (b .before .refusal .ensures) ∙ b .if1 .left) (omega arith) (f .if3 .left) (omega arith) (n .count-runs .ensures) (omega arith) (w .write-call .ensures) (omega arith) (a .assign .ensures) (omega arith)
+    recorded _ _ _ _ _ _ _ _ _ _ (a .assign .result) (sym (b .before .refusal .ensures) ∙ b .if1 .left) (omega arith) (f .if3 .left) (omega arith) _ (n .runs-fit .ensures) (not-false _ (w .before .before .before .if4 .left)) (w .write-call .ensures) (omega arith) (a .assign .ensures) (omega arith)
 
 pub assign-spec : {M : Type 1} → statement M
 assign-spec =
@@ -128,16 +112,12 @@ assign-spec =
     returns-3
     sub-most
     sub-most-2
-    add-count-runs
-    count-runs-requires
+    runs-fit-requires
     declined-requires-4
     same-length
     returns-4
     write-call-requires
     assign-requires
-    mul-t19
-    add-t20
-    add-t30
     same-length-2
     same-length-3
     returns-5)
