@@ -38,7 +38,7 @@ fn begun(name: &[u8], words: u32, len: u32, storage: &[u64]) {
     };
     say(name);
     say(b": ");
-    print_answer(RangeBitset::audit(head, storage));
+    print_answer(audit::audit(head, storage));
 }
 
 // The audit of a head whose flag is clear.
@@ -50,7 +50,7 @@ fn fresh(name: &[u8], words: u32, len: u32, storage: &[u64]) {
     };
     say(name);
     say(b": ");
-    print_answer(RangeBitset::audit(head, storage));
+    print_answer(audit::audit(head, storage));
 }
 
 fn stale_numbers() {

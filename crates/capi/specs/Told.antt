@@ -1,11 +1,12 @@
 -- C's numbers for the set's heads and answers, and the promise of each export: its answer is those numbers for an answer that
--- the entry of range_bitset promises. Assumes nothing.
+-- the entry of range_bitset, or of audit, promises. Assumes nothing.
 use mathlib.Core.Path.{_≡_}
 use mathlib.Core.Bool.{Bool, false}
 use mathlib.Core.List.{List}
 use Prim.Native.Nat.{ℕ}
 use Rattle.positions.specs.Positions.{one}
-use Rattle.range_bitset.specs.Entries.{CapacityEnsures, LenEnsures, GetEnsures, CountEnsures, NextEnsures, AssignEnsures, SetEnsures, ClearEnsures, AuditEnsures}
+use Rattle.range_bitset.specs.Entries.{CapacityEnsures, LenEnsures, GetEnsures, CountEnsures, NextEnsures, AssignEnsures, SetEnsures, ClearEnsures}
+use Rattle.audit.specs.Entry.{AuditEnsures}
 use Rattle.range_bitset.specs.declared.RangeBitset.{RangeBitset}
 use Rattle.range_bitset.specs.declared.Made.{Made}
 use Rattle.range_bitset.specs.declared.Made.the-variants as made

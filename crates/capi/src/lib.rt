@@ -1,6 +1,6 @@
 // The set's entries for C and C++: include/kladomyne.h has the same structs and calls, in C's words. A head goes in and comes
 // back by value; storage is a pointer and a count; an answer is a struct of numbers. Each export calls the entry of its name in
-// range_bitset and hands its answer over in those numbers, and nothing else: specs/Told.antt has the definitions. The ledger's
+// range_bitset, or the crate audit, and hands its answer over in those numbers, and nothing else: specs/Told.antt. The ledger's
 // exports are the crate capi_ledger, apart: in one archive with them the searches would be compiled for two callers, and slower.
 // Assumes what the header says that the caller owes, and nothing of heads, numbers and arguments: no export has a `requires`.
 use range_bitset::Assigned;
@@ -264,5 +264,5 @@ pub extern "C" fn klado_set_clear(head: KladoSet, storage: &mut [u64]) -> KladoS
 pub extern "C" fn klado_set_audit(head: KladoSet, storage: &[u64]) -> KladoAnswer
     ensures { λ r. ⌜ AuditTold head (now (storage .entry)) r ⌝ }
 {
-    of_tested(set_of(head).audit(storage))
+    of_tested(audit::audit(set_of(head), storage))
 }

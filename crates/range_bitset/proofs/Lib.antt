@@ -1,4 +1,4 @@
--- The set's laws, and the theorems on soundness. Assumes nothing.
+-- The set's laws. Assumes nothing.
 pub mod Heads
 pub mod Slots
 pub mod Words
@@ -16,7 +16,3 @@ pub mod Populations
 pub mod CountPieces
 pub mod Candidates
 pub mod Searching
-pub mod SoundStorage
-pub mod Soundness
-pub mod AuditBlocks
-pub mod Audits

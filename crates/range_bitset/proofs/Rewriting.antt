@@ -1,18 +1,17 @@
--- One block written anew: what the storage holds where only the numbers of one open block change, and where only
--- positions past the capacity do. Assumes nothing.
+-- One block written anew: what the storage holds where only the numbers of one open block change. Assumes nothing.
 use mathlib.Core.Path.{_≡_, refl, ap, sym, _∙_, subst, ap₂}
 use mathlib.Core.Bool.{Bool, true, false, not, _&&_, _||_}
 use mathlib.Core.List.{List}
 use Prim.Native.Nat.{ℕ, _+_, _*_, _/_, _<_}
 use native.Mathlib.Omega.{arith}
 use lib.Dec.{eqb}
-use borrow.Author.Tests.{ne-eqb, eqb-true}
+use borrow.Author.Tests.{eqb-true}
 use Rattle.positions.specs.Positions.{Positions}
 use Rattle.positions.proofs.Counts.{count-same}
 use Rattle.bits.proofs.Words.{mask-ext}
 use Rattle.range_bitset.specs.Layout.{blocks, wordsOf, at, word, nonzero, full, population, topNonzero, topFull, Slot}
 use Rattle.range_bitset.specs.Read.{ALL}
-use Rattle.range_bitset.specs.Represents.{wordOf, anyWord, allWord, valid, nonzeroMask, fullMask, blockCount, anyBlock, allBlock, closed, only, masked, Holds, Stored}
+use Rattle.range_bitset.specs.Represents.{wordOf, anyWord, allWord, valid, nonzeroMask, fullMask, blockCount, anyBlock, allBlock, only, masked, Holds}
 use Rattle.range_bitset.specs.Inner.{In}
 use Rattle.range_bitset.proofs.Words.{word-same, in-block}
 
@@ -119,30 +118,3 @@ module _ (W : ℕ) (s s′ : Positions) (b : ℕ) (agree : (i : ℕ) → i < 64 
           o (word j) h q
           ∙ r .stored j h (sym (same-masked (j / 64) (in-block W j h .0)) ∙ m) (ap (λ (x : ℕ). not (eqb x 0)) (sym w) ∙ a) (ap (λ (x : ℕ). eqb x ALL) (sym w) ∙ g)
           ∙ sym w
-
--- sets that agree below the capacity are held alike
-module _ (W : ℕ) (s s′ : Positions) (agree : (i : ℕ) → i < 64 * W → s′ i ≡ s i) where
-  off : (c : ℕ) → c < blocks W → eqb c (blocks W) ≡ false
-  off c k = ne-eqb c (blocks W) (λ e. omega arith)
-
-  pub stored-same : (st : List ℕ) → Stored W st s → Stored W st s′
-  stored-same st r =
-      record {
-        top-nonzero = r .top-nonzero ∙ mask-ext (blocks W) _ _ (λ c k. sym (any c k));
-        top-full = r .top-full ∙ mask-ext (blocks W) _ _ (λ c k. sym (all c k));
-        nonzeros = λ c k m. r .nonzeros c k (back c k m) ∙ sym (same-nonzero W s s′ (blocks W) (λ i h e. agree i h) c k (off c k));
-        fulls = λ c k m. r .fulls c k (back c k m) ∙ sym (same-full W s s′ (blocks W) (λ i h e. agree i h) c k (off c k));
-        counts = λ c k m. r .counts c k (back c k m) ∙ sym (same-count W s s′ (blocks W) (λ i h e. agree i h) c k (off c k));
-        stored = λ j h m a f.
-            let w : wordOf s′ j ≡ wordOf s j = word-same s′ s j (λ i l. agree (64 * j + i) (omega arith)) in
-            r .stored j h (back (j / 64) (omega arith) m) (ap (λ (x : ℕ). not (eqb x 0)) (sym w) ∙ a) (ap (λ (x : ℕ). eqb x ALL) (sym w) ∙ f) ∙ sym w;
-      }
-    where
-      any : (c : ℕ) → c < blocks W → anyBlock W s′ c ≡ anyBlock W s c
-      any c k = same-any W s s′ (blocks W) (λ i h e. agree i h) c k (off c k)
-
-      all : (c : ℕ) → c < blocks W → allBlock W s′ c ≡ allBlock W s c
-      all c k = same-all W s s′ (blocks W) (λ i h e. agree i h) c k (off c k)
-
-      back : (c : ℕ) → c < blocks W → masked W s′ closed c ≡ true → masked W s closed c ≡ true
-      back c k m = ap₂ (λ (x y : Bool). x && not y) (sym (any c k)) (sym (all c k)) ∙ m

@@ -144,13 +144,7 @@ module _ (W : ℕ) (s : Positions) (b : ℕ) where
   block-most = omega (arith, count-le s (4096 * b) (4096 * b + 64 * wordsOf W b))
 
   module _ (l : b < blocks W) where
-    -- a full block is no empty one
-    pub all-any-block : allBlock W s b ≡ true → anyBlock W s b ≡ true
-    all-any-block e =
-        let p = full-nonzero e in
-        let h = words-some W b l in
-        ap not (ne-eqb (nonzeroMask W s b) 0 (λ z. omega arith))
-
+    -- an empty block is no full one
     pub none-all-block : anyBlock W s b ≡ false → allBlock W s b ≡ false
     none-all-block e =
         let p = clear-full e in

@@ -1,7 +1,7 @@
 -- What the entries answer, as 01's numbers: one reply for each case of each answer enum; and the refusals, in 01's order.
 -- Assumes nothing.
-use mathlib.Core.Bool.{Bool, true, false, _&&_, cond}
-use Prim.Native.Nat.{ℕ, _*_, _/_, _%_}
+use mathlib.Core.Bool.{Bool, _&&_, cond}
+use Prim.Native.Nat.{ℕ, _/_, _%_}
 use lib.Dec.{eqb, leb, ltb}
 use Rattle.positions.specs.Positions.{one, Found, At, None}
 use Rattle.range_bitset.specs.Layout.{allowed, needed}

@@ -1,15 +1,14 @@
 -- The set's promises: one definition for each entry. `st` is the storage at entry, `st′` at exit. Assumes nothing.
 use mathlib.Core.Path.{_≡_}
-use mathlib.Core.Bool.{Bool, true, false, _&&_, _||_, cond}
+use mathlib.Core.Bool.{Bool, false, _&&_, _||_, cond}
 use mathlib.Core.List.{List}
-use Prim.Native.Nat.{ℕ, suc, _*_, _/_}
+use Prim.Native.Nat.{ℕ, suc, _/_}
 use lib.Dec.{ltb}
 use lib.ListN.{drop, length}
 use Rattle.positions.specs.Positions.{Positions, none, assigned, count, changedCount, first, one}
 use Rattle.range_bitset.specs.Layout.{needed}
 use Rattle.range_bitset.specs.Represents.{Represents, capacityOf}
-use Rattle.range_bitset.specs.Sound.{Sound}
-use Rattle.range_bitset.specs.Answers.{Reply, Number, Refusal, ofCounted, ofTested, ofPlace, ofFound, refused, allowedCapacity, goodHead, headRefusal, storageRefusal, rangeRefusal, pointRefusal}
+use Rattle.range_bitset.specs.Answers.{Reply, Number, Refusal, ofCounted, ofTested, ofPlace, ofFound, refused, allowedCapacity, goodHead, storageRefusal, rangeRefusal, pointRefusal}
 use Rattle.range_bitset.specs.declared.RangeBitset.{RangeBitset}
 use Rattle.range_bitset.specs.declared.Made.{Made}
 use Rattle.range_bitset.specs.declared.Made.the-variants as made
@@ -84,9 +83,3 @@ abbrev pub ClearEnsures : RangeBitset → List ℕ → Assigned → List ℕ →
 ClearEnsures h st r st′ =
     Changes (storageRefusal h (length st)) h st (λ s. Number (count s 0 (capacityOf h))) (λ s. none) false
     (ofCounted (r .answer)) (r .head) st′
-
--- on any memory: refused exactly so, and else 1, 01's yes, exactly where head and storage are sound
-pub record AuditEnsures (h : RangeBitset) (st : List ℕ) (r : Tested) : Type 0 where
-  pub refuses : refused (ofTested r) ≡ storageRefusal h (length st)
-  pub yes : ofTested r ≡ Number 1 → Sound h st
-  pub sound : storageRefusal h (length st) ≡ 0 → Sound h st → ofTested r ≡ Number 1

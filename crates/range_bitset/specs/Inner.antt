@@ -1,5 +1,5 @@
--- Contracts of the inner functions. No caller of the crate sees them, and nothing here need be believed: the entries'
--- promises (Entries) speak of none of it. Assumes nothing.
+-- Contracts of the inner functions. No caller of an entry sees them, and nothing here need be believed: the entries'
+-- promises (Entries) speak of none of it. The audit reads by Room, Spans and mixedCount. Assumes nothing.
 use mathlib.Core.Path.{_≡_}
 use mathlib.Core.Bool.{Bool, true, false, not, _&&_, cond}
 use mathlib.Core.List.{List, [], _∷_}
@@ -12,8 +12,7 @@ use Rattle.positions.proofs.Searches.{Lacks, Stops}
 use Rattle.bits.specs.Bit.{bit, put}
 use Rattle.range_bitset.specs.Layout.{blocks, wordsOf, needed, Slot, word, nonzero, full, population, topNonzero, topFull, address, at}
 use Rattle.range_bitset.specs.Read.{ALL, stateOf, mixedRead, wordRead}
-use Rattle.range_bitset.specs.Represents.{wordOf, only, Holds, Stored}
-use Rattle.range_bitset.specs.Sound.{SoundBlock}
+use Rattle.range_bitset.specs.Represents.{only, Holds, Stored}
 use Rattle.range_bitset.specs.declared.State.{State}
 use Rattle.range_bitset.specs.declared.State.the-variants.{Empty, Mixed, Full}
 
@@ -217,27 +216,3 @@ pub record BitsFrom (W a : ℕ) (v : Bool) (st : List ℕ) (r : ℕ) : Type 0 wh
 -- where that word has none: the first position after it, or the capacity
 abbrev pub NextAfter : ℕ → ℕ → Bool → List ℕ → ℕ → Type 0
 NextAfter W a v st r = Passes W st a v (64 * suc (a / 64)) → NextFrom W a v st r
-
--- ---- what the functions of the audit give back
-
--- r tells whether P holds
-pub record Tells (r : Bool) (P : Type 0) : Type 0 where
-  pub yes : r ≡ true → P
-  pub no : r ≡ false → P → ⊥
-
--- the nonzero and the full mask of n words or blocks: no bit at or above n, and full lies within nonzero
-pub record SoundMasks (n any all : ℕ) : Type 0 where
-  pub nonzero-fits : any < 2 ^ n
-  pub full-fits : all < 2 ^ n
-  pub within-nonzero : (j : ℕ) → bit all j ≡ true → bit any j ≡ true
-
--- the words of block b that m has are neither 0 nor all ones
-abbrev pub SoundWords : ℕ → List ℕ → ℕ → ℕ → Type 0
-SoundWords W st b m = (j : ℕ) → bit m j ≡ true → (at W st (word (64 * b + j)) ≡ 0 → ⊥) × (at W st (word (64 * b + j)) ≡ ALL → ⊥)
-
--- block b, if it is mixed, meets the rules; and each of the first n blocks
-abbrev pub SoundAt : ℕ → List ℕ → ℕ → Type 0
-SoundAt W st b = stateOf W st b ≡ Mixed → SoundBlock W st b
-
-abbrev pub SoundBlocks : ℕ → List ℕ → ℕ → Type 0
-SoundBlocks W st n = (b : ℕ) → b < n → SoundAt W st b

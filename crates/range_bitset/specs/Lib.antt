@@ -1,9 +1,8 @@
--- The set's definitions. To believe: Layout, Read, Represents, Sound, Answers, Entries. Inner has the contracts of inner
+-- The set's definitions. To believe: Layout, Read, Represents, Answers, Entries. Inner has the contracts of inner
 -- functions, which no caller sees. Assumes nothing.
 pub mod Layout
 pub mod Read
 pub mod Represents
-pub mod Sound
 pub mod Answers
 pub mod Entries
 pub mod Inner

@@ -1,12 +1,10 @@
 -- What a storage says, read through its masks, on any memory. A mask bit is believed before the number under it: a word
 -- or block marked empty or full reads as zero or all ones, whatever stands there. Assumes nothing.
-use mathlib.Core.Bool.{Bool, true, false, _&&_, cond}
+use mathlib.Core.Bool.{cond}
 use mathlib.Core.List.{List}
-use Prim.Native.Nat.{ℕ, _*_, _-_, _/_, _%_, _^_}
-use Rattle.positions.specs.Positions.{Positions}
+use Prim.Native.Nat.{ℕ, _-_, _/_, _%_, _^_}
 use Rattle.bits.specs.Bit.{bit}
 use Rattle.range_bitset.specs.Layout.{at, word, nonzero, full, topNonzero, topFull}
-use Rattle.range_bitset.specs.declared.RangeBitset.{RangeBitset}
 use Rattle.range_bitset.specs.declared.State.{State}
 use Rattle.range_bitset.specs.declared.State.the-variants.{Empty, Mixed, Full}
 
@@ -32,11 +30,3 @@ byState Full m = ALL
 -- data word k
 unfoldable pub wordRead : ℕ → List ℕ → ℕ → ℕ
 wordRead W st k = byState (stateOf W st (k / 64)) (mixedRead W st k)
-
--- the set that the storage's words read: bit i of word k is position 64 * k + i
-unfoldable pub plain : ℕ → List ℕ → Positions
-plain W st i = bit (wordRead W st (i / 64)) (i % 64)
-
--- the set that head and storage read: none of the storage is read before the head says that it was begun
-unfoldable pub has : RangeBitset → List ℕ → Positions
-has h st i = h .allocated && plain (h .words) st i

@@ -10,27 +10,26 @@
 //
 // The storage is lent with each call; the head goes in and comes back by value. Any head, number and memory is safe: an
 // entry refuses what 01's table refuses, and inside, sums wrap and masks are cut to the words and blocks that there are.
-// Assumes nothing of its callers: no entry has a `requires`.
+// Assumes nothing of its callers: no entry has a `requires`. The readers that are `pub` beside the entries are for the crate
+// `audit`: what they require is the word count, the block and the storage's length, and each is exact on any memory.
 ghost use mathlib.Core.Path.{_≡_};
 ghost use mathlib.Core.Bool.{true, false, not, _&&_, cond};
 ghost use lib.Count.{ones};
 ghost use lib.Bits.{bitAnd};
 ghost use lib.Dec.{eqb};
-ghost use Prim.Native.Nat.{ℕ, _+_, _*_, _-_, _/_, _%_, _^_, _<_, _≤_};
-ghost use lib.ListN.{length, take, drop, getD};
-ghost use Rattle.positions.specs.Positions.{sumOver, count};
+ghost use Prim.Native.Nat.{ℕ, _+_, _*_, _-_, _%_, _^_, _<_, _≤_};
+ghost use lib.ListN.{length, getD};
+ghost use Rattle.positions.specs.Positions.{sumOver};
 ghost use Rattle.positions.proofs.Searches.{below};
 ghost use Rattle.bits.specs.Bit.{bit, put};
-ghost use Rattle.range_bitset.specs.Layout.{allowed, blocks, needed, wordsOf, address, at, nonzero, full, population, topNonzero, topFull};
-ghost use Rattle.range_bitset.specs.Read.{ALL, stateOf, mixedRead, wordRead, plain};
-ghost use Rattle.range_bitset.specs.Represents.{valid, blockCount};
-ghost use Rattle.range_bitset.specs.Sound.{SoundBlock, SoundStorage};
-ghost use Rattle.range_bitset.specs.Answers.{ofPlace, ofFound, allowedCapacity, goodHead, headRefusal, storageRefusal, rangeRefusal, pointRefusal};
-ghost use Rattle.range_bitset.specs.Entries.{newOf, CapacityEnsures, LenEnsures, GetEnsures, CountEnsures, NextEnsures, AssignEnsures, SetEnsures, ClearEnsures, AuditEnsures};
-ghost use Rattle.range_bitset.specs.Inner.{Room, Spans, apart, moved, stores, openWith, writeWord, countMoved, writeMasks, writeTops, Opens, Closes, Assigns, Begins, mixedCount, wordsCount, blocksCount, Counts, CandidateWords, CandidateBlocks, NextInWord, NextAfter, BitsFrom, Tells, SoundMasks, SoundWords, SoundAt, SoundBlocks};
-ghost use Rattle.range_bitset.specs.declared.State.the-variants.{Mixed};
+ghost use Rattle.range_bitset.specs.Layout.{allowed, blocks, wordsOf, address, at, nonzero, full, population, topNonzero, topFull};
+ghost use Rattle.range_bitset.specs.Read.{ALL, stateOf, mixedRead, wordRead};
+ghost use Rattle.range_bitset.specs.Represents.{valid};
+ghost use Rattle.range_bitset.specs.Answers.{ofPlace, ofFound, goodHead, storageRefusal, rangeRefusal, pointRefusal};
+ghost use Rattle.range_bitset.specs.Entries.{newOf, CapacityEnsures, LenEnsures, GetEnsures, CountEnsures, NextEnsures, AssignEnsures, SetEnsures, ClearEnsures};
+ghost use Rattle.range_bitset.specs.Inner.{Room, Spans, apart, moved, stores, openWith, writeWord, countMoved, writeMasks, writeTops, Opens, Closes, Assigns, Begins, mixedCount, wordsCount, blocksCount, Counts, CandidateWords, CandidateBlocks, NextInWord, NextAfter, BitsFrom};
 
-const ALL: u64 = u64::MAX;
+pub const ALL: u64 = u64::MAX;
 
 // Bits strictly above `bit` in one word.
 fn above(bit: usize) -> u64
@@ -41,7 +40,7 @@ fn above(bit: usize) -> u64
 }
 
 // Bits `from..to` of one word.
-fn span(from: usize, to: usize) -> u64
+pub fn span(from: usize, to: usize) -> u64
     requires { ⌜ (from < to) × (to ≤ 64) ⌝ }
     ensures { λ r. ⌜ Spans r from to ⌝ }
 {
@@ -194,7 +193,7 @@ impl RangeBitset {
     }
 
     // 0, or the number by which a call on head and storage is refused.
-    fn refusal(head: RangeBitset, len: usize) -> u8
+    pub fn refusal(head: RangeBitset, len: usize) -> u8
         ensures { λ r. ⌜ r ≡ storageRefusal head len ⌝ }
     {
         if !Self::good_head(head) {
@@ -229,7 +228,7 @@ impl RangeBitset {
         if index < 64 * words { 0 } else { 4 }
     }
 
-    fn blocks(words: usize) -> usize
+    pub fn blocks(words: usize) -> usize
         requires { ⌜ words ≤ 4096 ⌝ }
         ensures { λ r. ⌜ r ≡ blocks words ⌝ }
     {
@@ -237,7 +236,7 @@ impl RangeBitset {
     }
 
     // How many words `block` has.
-    fn words_per_block(words: usize, block: usize) -> usize
+    pub fn words_per_block(words: usize, block: usize) -> usize
         requires { ⌜ (words ≤ 4096) × (block < blocks words) ⌝ }
         ensures { λ r. ⌜ r ≡ wordsOf words block ⌝ }
     {
@@ -246,7 +245,7 @@ impl RangeBitset {
     }
 
     // The mask of the words of `block`.
-    fn valid_words(words: usize, block: usize) -> u64
+    pub fn valid_words(words: usize, block: usize) -> u64
         requires { ⌜ (words ≤ 4096) × (block < blocks words) ⌝ }
         ensures { λ r. ⌜ r ≡ valid words block ⌝ }
     {
@@ -254,35 +253,35 @@ impl RangeBitset {
         if n >= 64 { ALL } else { (1u64 << n) - 1 }
     }
 
-    fn nonzero_slot(words: usize, block: usize) -> usize
+    pub fn nonzero_slot(words: usize, block: usize) -> usize
         requires { ⌜ (words ≤ 4096) × (block < 64) ⌝ }
         ensures { λ r. ⌜ r ≡ address words (nonzero block) ⌝ }
     {
         words + block
     }
 
-    fn full_slot(words: usize, block: usize) -> usize
+    pub fn full_slot(words: usize, block: usize) -> usize
         requires { ⌜ (words ≤ 4096) × (block < 64) ⌝ }
         ensures { λ r. ⌜ r ≡ address words (full block) ⌝ }
     {
         words + Self::blocks(words) + block
     }
 
-    fn population_slot(words: usize, block: usize) -> usize
+    pub fn population_slot(words: usize, block: usize) -> usize
         requires { ⌜ (words ≤ 4096) × (block < 64) ⌝ }
         ensures { λ r. ⌜ r ≡ address words (population block) ⌝ }
     {
         words + 2 * Self::blocks(words) + block
     }
 
-    fn top_nonzero_slot(words: usize) -> usize
+    pub fn top_nonzero_slot(words: usize) -> usize
         requires { ⌜ words ≤ 4096 ⌝ }
         ensures { λ r. ⌜ r ≡ address words topNonzero ⌝ }
     {
         words + 3 * Self::blocks(words)
     }
 
-    fn top_full_slot(words: usize) -> usize
+    pub fn top_full_slot(words: usize) -> usize
         requires { ⌜ words ≤ 4096 ⌝ }
         ensures { λ r. ⌜ r ≡ address words topFull ⌝ }
     {
@@ -302,7 +301,7 @@ impl RangeBitset {
         }
     }
 
-    fn block_state(storage: &[u64], words: usize, block: usize) -> State
+    pub fn block_state(storage: &[u64], words: usize, block: usize) -> State
         requires { ⌜ Room words (now storage) × (block < blocks words) ⌝ }
         ensures { λ r. ⌜ r ≡ stateOf words (now (storage .entry)) block ⌝ }
     {
@@ -482,7 +481,7 @@ impl RangeBitset {
     }
 
     // Population of the `mask` words of a `Mixed` block.
-    fn mixed_words_population(storage: &[u64], words: usize, block: usize, mask: u64) -> u32
+    pub fn mixed_words_population(storage: &[u64], words: usize, block: usize, mask: u64) -> u32
         requires { ⌜ Room words (now storage) × (block < blocks words) × (mask < 2 ^ wordsOf words block) ⌝ }
         ensures { λ r. ⌜ (r ≡ mixedCount words (now (storage .entry)) block mask) × (r ≤ 4096) ⌝ }
     {
@@ -1015,160 +1014,5 @@ impl RangeBitset {
                 allocated,
             },
         }
-    }
-
-    // ---- the audit
-
-    // Whether every bit of `part` is one of `whole`.
-    fn lies_within(part: u64, whole: u64) -> bool
-        ensures { λ r. ⌜ Tells r ((j : ℕ) → bit part j ≡ true → bit whole j ≡ true) ⌝ }
-    {
-        part & !whole == 0
-    }
-
-    // Whether the masks of `n` words or blocks have no bit at or above `n`, and full lies within nonzero.
-    fn masks_sound(any: u64, all: u64, n: usize) -> bool
-        requires { ⌜ (0 < n) × (n ≤ 64) ⌝ }
-        ensures { λ r. ⌜ Tells r (SoundMasks n any all) ⌝ }
-    {
-        if !Self::lies_within(any, span(0, n)) {
-            return false;
-        }
-        Self::lies_within(all, any)
-    }
-
-    // Whether the data words `explicit` of `block` are neither zero nor all ones.
-    fn stored_words_sound(storage: &[u64], words: usize, block: usize, explicit: u64) -> bool
-        requires { ⌜ Room words (now storage) × (block < blocks words) × (explicit < 2 ^ wordsOf words block) ⌝ }
-        ensures { λ r. ⌜ Tells r (SoundWords words (now (storage .entry)) block explicit) ⌝ }
-    {
-        let mut explicit = explicit;
-        while explicit != 0 {
-            let word = storage[64 * block + u64::trailing_zeros(explicit) as usize];
-            if word == 0 {
-                return false;
-            }
-            if word == ALL {
-                return false;
-            }
-            explicit = explicit & (explicit - 1);
-        }
-        true
-    }
-
-    // Whether a `Mixed` block meets the rules.
-    fn mixed_block_sound(storage: &[u64], words: usize, block: usize) -> bool
-        requires { ⌜ Room words (now storage) × (block < blocks words) × (stateOf words (now storage) block ≡ Mixed) ⌝ }
-        ensures { λ r. ⌜ Tells r (SoundBlock words (now (storage .entry)) block) ⌝ }
-    {
-        let nonzero_slot = Self::nonzero_slot(words, block);
-        let full_slot = Self::full_slot(words, block);
-        let nonzero = storage[nonzero_slot];
-        let full = storage[full_slot];
-        if !Self::masks_sound(nonzero, full, Self::words_per_block(words, block)) {
-            return false;
-        }
-        if nonzero == 0 {
-            return false;
-        }
-        let valid = Self::valid_words(words, block);
-        if full == valid {
-            return false;
-        }
-        if !Self::stored_words_sound(storage, words, block, nonzero & !full) {
-            return false;
-        }
-        let counted = Self::mixed_words_population(storage, words, block, valid);
-        let slot = Self::population_slot(words, block);
-        storage[slot] == counted as u64
-    }
-
-    // Whether `block` meets the rules, which ask nothing of one that is all clear or all set.
-    fn block_sound(storage: &[u64], words: usize, block: usize) -> bool
-        requires { ⌜ Room words (now storage) × (block < blocks words) ⌝ }
-        ensures { λ r. ⌜ Tells r (SoundAt words (now (storage .entry)) block) ⌝ }
-    {
-        match Self::block_state(storage, words, block) {
-            State::Empty => true,
-            State::Full => true,
-            State::Mixed => Self::mixed_block_sound(storage, words, block),
-        }
-    }
-
-    fn blocks_sound(storage: &[u64], words: usize) -> bool
-        requires { ⌜ Room words (now storage) ⌝ }
-        ensures { λ r. ⌜ Tells r (SoundBlocks words (now (storage .entry)) (blocks words)) ⌝ }
-    {
-        let blocks = Self::blocks(words);
-        let mut block = 0;
-        while block < blocks {
-            if !Self::block_sound(storage, words, block) {
-                return false;
-            }
-            block += 1;
-        }
-        true
-    }
-
-    fn storage_sound(storage: &[u64], words: usize) -> bool
-        requires { ⌜ Room words (now storage) ⌝ }
-        ensures { λ r. ⌜ Tells r (SoundStorage words (now (storage .entry))) ⌝ }
-    {
-        let nonzero = Self::top_nonzero_slot(words);
-        let full = Self::top_full_slot(words);
-        if !Self::masks_sound(storage[nonzero], storage[full], Self::blocks(words)) {
-            return false;
-        }
-        Self::blocks_sound(storage, words)
-    }
-
-    // How many positions a block has that meets the rules: a mixed one as its kept population says.
-    fn block_population(storage: &[u64], words: usize, block: usize) -> u32
-        requires { ⌜ Room words (now storage) × (block < blocks words) × SoundAt words (now storage) block ⌝ }
-        ensures { λ r. ⌜ (r ≡ blockCount words (plain words (now (storage .entry))) block) × (r ≤ 4096) ⌝ }
-    {
-        match Self::block_state(storage, words, block) {
-            State::Empty => 0,
-            State::Full => Self::words_per_block(words, block) as u32 * 64,
-            State::Mixed => {
-                let slot = Self::population_slot(words, block);
-                storage[slot] as u32
-            }
-        }
-    }
-
-    // How many positions a storage has whose blocks meet the rules.
-    fn whole_population(storage: &[u64], words: usize) -> u32
-        requires { ⌜ Room words (now storage) × SoundBlocks words (now storage) (blocks words) ⌝ }
-        ensures { λ r. ⌜ r ≡ count (plain words (now (storage .entry))) 0 (64 * words) ⌝ }
-    {
-        let blocks = Self::blocks(words);
-        let mut block = 0;
-        let mut population = 0u32;
-        while block < blocks {
-            population += Self::block_population(storage, words, block);
-            block += 1;
-        }
-        population
-    }
-
-    // Whether storage and head are sound.
-    pub fn audit(self, storage: &[u64]) -> Tested
-        ensures { λ r. ⌜ AuditEnsures self (now (storage .entry)) r ⌝ }
-    {
-        let refused = Self::refusal(self, storage.len());
-        if refused != 0 {
-            return Tested::Refused(refused);
-        }
-        let words = self.words as usize;
-        let len = self.len;
-        let allocated = self.allocated;
-        if !allocated {
-            return Tested::Is(len == 0);
-        }
-        if !Self::storage_sound(storage, words) {
-            return Tested::Is(false);
-        }
-        Tested::Is(len == Self::whole_population(storage, words))
     }
 }

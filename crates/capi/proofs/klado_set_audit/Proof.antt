@@ -1,5 +1,5 @@
--- `capi::klado_set_audit` answers what `RangeBitset::audit` does. Assumes nothing.
-use Rattle.range_bitset.specs.Entries.{AuditEnsures}
+-- `capi::klado_set_audit` answers what `audit::audit` does. Assumes nothing.
+use Rattle.audit.specs.Entry.{AuditEnsures}
 use Rattle.capi.specs.Told.{ofTested}
 use Rattle.range_bitset.specs.declared.Tested.{Tested}
 use Rattle.capi.specs.declared.KladoAnswer.{KladoAnswer}

@@ -1,0 +1,15 @@
+-- The audit's promise. `st` is the storage that it is lent. Assumes nothing.
+use mathlib.Core.Path.{_≡_}
+use mathlib.Core.List.{List}
+use Prim.Native.Nat.{ℕ}
+use lib.ListN.{length}
+use Rattle.range_bitset.specs.Answers.{Number, ofTested, refused, storageRefusal}
+use Rattle.range_bitset.specs.declared.RangeBitset.{RangeBitset}
+use Rattle.range_bitset.specs.declared.Tested.{Tested}
+use Rattle.audit.specs.Sound.{Sound}
+
+-- on any memory: refused exactly so, and else 1, 01's yes, exactly where head and storage are sound
+pub record AuditEnsures (h : RangeBitset) (st : List ℕ) (r : Tested) : Type 0 where
+  pub refuses : refused (ofTested r) ≡ storageRefusal h (length st)
+  pub yes : ofTested r ≡ Number 1 → Sound h st
+  pub sound : storageRefusal h (length st) ≡ 0 → Sound h st → ofTested r ≡ Number 1
