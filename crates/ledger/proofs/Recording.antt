@@ -5,7 +5,7 @@ use mathlib.Core.Bool.{Bool, true, false}
 use mathlib.Core.List.{List}
 use Prim.Native.Nat.{ℕ, _+_, _*_, _-_, _/_, _≤_, _<_}
 use native.Mathlib.Omega.{arith}
-use borrow.Author.Tests.{le-leb, lt-leb, leb-true, leb-false, ne-eqb}
+use borrow.Author.Tests.{le-leb, lt-leb, leb-true, leb-false, eq-eqb, ne-eqb}
 use lib.Dec.{leb}
 use lib.ListN.{length, take}
 use Rattle.positions.specs.Positions.{Positions, assigned}
@@ -49,9 +49,13 @@ module _ (h : Ledger) (st j : List ℕ) (a e : ℕ) (v : Bool) where
   unfolding callRefusal
   call-outside p n = rw (p, lt-leb e (capacityOf (h .set)) n)
 
-  call-passes : lentRefusal h (length st) (length j) ≡ 0 → e ≤ capacityOf (h .set) → callRefusal (Range a e v) before ≡ 0
+  call-none-left : lentRefusal h (length st) (length j) ≡ 0 → e ≤ capacityOf (h .set) → h .used ≡ h .journal → callRefusal (Range a e v) before ≡ 6
   unfolding callRefusal
-  call-passes p n = rw (p, le-leb e (capacityOf (h .set)) n)
+  call-none-left p n o = rw (p, le-leb e (capacityOf (h .set)) n, eq-eqb (h .used) (h .journal) o)
+
+  call-passes : lentRefusal h (length st) (length j) ≡ 0 → e ≤ capacityOf (h .set) → (h .used ≡ h .journal → ⊥) → callRefusal (Range a e v) before ≡ 0
+  unfolding callRefusal
+  call-passes p n o = rw (p, le-leb e (capacityOf (h .set)) n, ne-eqb (h .used) (h .journal) o)
 
   -- the set's own calls then pass too
   accepted : lentRefusal h (length st) (length j) ≡ 0 → e ≤ capacityOf (h .set) → rangeRefusal (h .set) (length st) e ≡ 0
@@ -101,12 +105,13 @@ module _ (h : Ledger) (st j : List ℕ) (a e : ℕ) (v : Bool) where
 
   -- more numbers are needed than the journal has left
   full : (r : Counted) (h′ : Ledger) → r ≡ counted.Refused 6 → h′ ≡ h → lentRefusal h (length st) (length j) ≡ 0 → e ≤ capacityOf (h .set)
+      → ((callRefusal (Range a e v) before ≡ 0 → ⊥) → callRefusal (Range a e v) before ≡ 6)
       → ((s : Positions) → Represents (h .set) st s → h .journal - h .used < needOf s a e v)
       → Called (Range a e v) before (ofCounted r) (memory h′ st j)
-  full r h′ p q l n more =
+  full r h′ p q l n six more =
       declined-as 6 r h′ p q
       (record {
-        refuses = λ z. absurd (z (call-passes l n));
+        refuses = λ z. ap Refusal (sym (six z));
         only-6 = λ z. inr (refl, refl);
         unchanged = λ z. refl;
         storage-kept = refl;
@@ -123,15 +128,15 @@ module _ (h : Ledger) (st j : List ℕ) (a e : ℕ) (v : Bool) where
   pub none-left : (r : Counted) (h′ : Ledger) → r ≡ counted.Refused 6 → h′ ≡ h → lentRefusal h (length st) (length j) ≡ 0 → e ≤ capacityOf (h .set)
       → h .used ≡ h .journal → Called (Range a e v) before (ofCounted r) (memory h′ st j)
   unfolding needOf
-  none-left r h′ p q l n o = full r h′ p q l n (λ s x. omega arith)
+  none-left r h′ p q l n o = full r h′ p q l n (λ z. call-none-left l n o) (λ s x. omega arith)
 
   -- more runs than fit
   pub too-many : (most : ℕ) (fit : Bool) (r : Counted) (h′ : Ledger) → r ≡ counted.Refused 6 → h′ ≡ h → lentRefusal h (length st) (length j) ≡ 0
-      → e ≤ capacityOf (h .set) → most ≡ (h .journal - h .used - 1) / 2 → RunsFit (h .set) st a e v most fit → fit ≡ false
+      → e ≤ capacityOf (h .set) → (h .used ≡ h .journal → ⊥) → most ≡ (h .journal - h .used - 1) / 2 → RunsFit (h .set) st a e v most fit → fit ≡ false
       → Called (Range a e v) before (ofCounted r) (memory h′ st j)
   unfolding needOf
-  too-many most fit r h′ p q l n o c d =
-      full r h′ p q l n
+  too-many most fit r h′ p q l n some o c d =
+      full r h′ p q l n (λ z. absurd (z (call-passes l n some)))
       (λ s x. omega (arith, leb-false (length (changedRuns s a e v)) most (sym (c (accepted l n) s x) ∙ d)))
 
   -- ---- done: the runs are recorded, then the range is given its value
@@ -216,9 +221,9 @@ module _ (h : Ledger) (st j : List ℕ) (a e : ℕ) (v : Bool) where
     pub recorded : Called (Range a e v) before (ofCounted (r .answer)) next
     recorded =
         record {
-          refuses = λ z. absurd (z (call-passes lent end-within));
-          only-6 = λ z. inl (changes .refuses ∙ passes);
-          unchanged = λ z. absurd (z (changes .refuses ∙ passes));
+          refuses = λ z. absurd (z (call-passes lent end-within some));
+          only-6 = λ z. inl (changes .accepts passes);
+          unchanged = λ z. absurd (z (changes .accepts passes));
           storage-kept = changes .kept;
           journal-kept = writes .others;
           answers = λ m x. rw (goes m x) (changes .answers passes (setOf m) (x .set));
