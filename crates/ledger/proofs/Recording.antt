@@ -27,7 +27,7 @@ use Rattle.ledger.specs.Entries.{Called, flagAfter}
 use Rattle.ledger.specs.Inner.{RunsFit, WritesCall}
 use Rattle.ledger.specs.declared.Ledger.{Ledger}
 use Rattle.ledger.proofs.Machines.{stayed, went, step-outside, step-full, step-range, kept-step, set-after-range, needs-added, journal-added}
-use Rattle.ledger.proofs.Refusals.{LentEnough, lent-accepted, accepted-lent, set-accepts, range-accepts, ledger-set, good-again}
+use Rattle.ledger.proofs.Refusals.{declined-as, LentEnough, lent-accepted, accepted-lent, set-accepts, range-accepts, ledger-set, good-again}
 
 -- a head with another's word count and a population within the capacity is as good
 good-after : (h h′ : RangeBitset) → goodHead h ≡ true → h′ .words ≡ h .words → h′ .len ≤ capacityOf h′ → goodHead h′ ≡ true
@@ -65,15 +65,10 @@ module _ (h : Ledger) (st j : List ℕ) (a e : ℕ) (v : Bool) where
 
   -- ---- refused: nothing is changed
 
-  -- the answer and the head as `declined` gives them
-  declined-as : (k : ℕ) (r : Counted) (h′ : Ledger) → r ≡ counted.Refused k → h′ ≡ h → Called (Range a e v) before (Refusal k) before
-      → Called (Range a e v) before (ofCounted r) (memory h′ st j)
-  declined-as k r h′ p q c = rw (p, q) c
-
   pub not-lent : (k : ℕ) (r : Counted) (h′ : Ledger) → r ≡ counted.Refused k → h′ ≡ h → k ≡ lentRefusal h (length st) (length j) → (k ≡ 0 → ⊥)
       → Called (Range a e v) before (ofCounted r) (memory h′ st j)
   not-lent k r h′ p q l n =
-      declined-as k r h′ p q
+      declined-as (Range a e v) h st j k r h′ p q
       (record {
         refuses = λ z. ap Refusal (sym (call-lent k l n));
         only-6 = λ z. absurd (n (sym (call-lent k l n) ∙ z));
@@ -88,7 +83,7 @@ module _ (h : Ledger) (st j : List ℕ) (a e : ℕ) (v : Bool) where
   pub outside : (r : Counted) (h′ : Ledger) → r ≡ counted.Refused 4 → h′ ≡ h → lentRefusal h (length st) (length j) ≡ 0 → capacityOf (h .set) < e
       → Called (Range a e v) before (ofCounted r) (memory h′ st j)
   outside r h′ p q l n =
-      declined-as 4 r h′ p q
+      declined-as (Range a e v) h st j 4 r h′ p q
       (record {
         refuses = λ z. ap Refusal (sym (call-outside l n));
         only-6 = λ z. absurd (let y : _≡_ {A = ℕ} 4 0 = sym (call-outside l n) ∙ z in omega arith);
@@ -109,7 +104,7 @@ module _ (h : Ledger) (st j : List ℕ) (a e : ℕ) (v : Bool) where
       → ((s : Positions) → Represents (h .set) st s → h .journal - h .used < needOf s a e v)
       → Called (Range a e v) before (ofCounted r) (memory h′ st j)
   full r h′ p q l n six more =
-      declined-as 6 r h′ p q
+      declined-as (Range a e v) h st j 6 r h′ p q
       (record {
         refuses = λ z. ap Refusal (sym (six z));
         only-6 = λ z. inr (refl, refl);
