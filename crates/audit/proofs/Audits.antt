@@ -1,6 +1,7 @@
 -- The returns of the audit over the blocks, over a storage, and of the entry: what each tells, from what the code has there.
 -- Assumes nothing.
 use mathlib.Core.Path.{_≡_, refl, ap, sym, _∙_, subst}
+use mathlib.Core.Logic.{inl, inr}
 use mathlib.Core.Bool.{Bool, true, false, true≢false}
 use mathlib.Core.List.{List}
 use Prim.Native.Nat.{ℕ, _+_, _*_, _≤_, _<_, min}
@@ -14,7 +15,7 @@ use Rattle.range_bitset.specs.Layout.{blocks, wordsOf, at, topNonzero, topFull}
 use Rattle.range_bitset.specs.Read.{stateOf}
 use Rattle.range_bitset.specs.Represents.{blockCount, capacityOf}
 use Rattle.audit.specs.Sound.{plain, SoundStorage, Sound}
-use Rattle.range_bitset.specs.Answers.{Reply, Number, Nothing, Refusal, storageRefusal}
+use Rattle.range_bitset.specs.Answers.{storageRefusal}
 use Rattle.audit.specs.Entry.{AuditEnsures}
 use Rattle.audit.specs.Inner.{Tells, SoundMasks, SoundAt, SoundBlocks}
 use Rattle.range_bitset.specs.declared.RangeBitset.{RangeBitset}
@@ -97,31 +98,14 @@ reach-all W s b h = let e : reach W b ≡ 64 * W = omega arith in ap (count s 0)
 
 -- ---- the entry
 
-number : Reply → ℕ
-number (Number n) = n
-number Nothing = 0
-number (Refusal k) = 0
-
 module _ (h : RangeBitset) (st : List ℕ) where
   pub audit-declined : (k : ℕ) → k ≡ storageRefusal h (length st) → (k ≡ 0 → ⊥) → AuditEnsures h st (tested.Refused k)
-  unfolding number
-  audit-declined k e z =
-      record {
-        refuses = e;
-        yes = λ p. let q : _≡_ {A = ℕ} 0 1 = ap number p in absurd (omega arith);
-        sound = λ p o. absurd (z (e ∙ p));
-      }
+  audit-declined k e z = record { refuses = e; tells = λ p. absurd (z (e ∙ p)) }
 
   -- an accepted audit tells whether head and storage are sound
   audit-told : (b : Bool) → storageRefusal h (length st) ≡ 0 → Tells b (Sound h st) → AuditEnsures h st (tested.Is b)
-  unfolding number
-  audit-told true e t = record { refuses = sym e; yes = λ p. t .yes refl; sound = λ p o. refl }
-  audit-told false e t =
-      record {
-        refuses = sym e;
-        yes = λ p. let q : _≡_ {A = ℕ} 0 1 = ap number p in absurd (omega arith);
-        sound = λ p o. absurd (t .no refl o);
-      }
+  audit-told true e t = record { refuses = sym e; tells = λ p. inl (refl, t .yes refl) }
+  audit-told false e t = record { refuses = sym e; tells = λ p. inr (refl, t .no refl) }
 
   pub audit-fresh : storageRefusal h (length st) ≡ 0 → h .allocated ≡ false → AuditEnsures h st (tested.Is (eqb (h .len) 0))
   audit-fresh e f =

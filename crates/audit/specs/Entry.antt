@@ -1,5 +1,6 @@
 -- The audit's promise. `st` is the storage that it is lent. Assumes nothing.
 use mathlib.Core.Path.{_≡_}
+use mathlib.Core.Logic.{_⊎_}
 use mathlib.Core.List.{List}
 use Prim.Native.Nat.{ℕ}
 use lib.ListN.{length}
@@ -8,8 +9,8 @@ use Rattle.range_bitset.specs.declared.RangeBitset.{RangeBitset}
 use Rattle.range_bitset.specs.declared.Tested.{Tested}
 use Rattle.audit.specs.Sound.{Sound}
 
--- on any memory: refused exactly so, and else 1, 01's yes, exactly where head and storage are sound
+-- on any memory: refused exactly so, and else 01's yes or no: 1 where head and storage are sound, 0 where they are not
 pub record AuditEnsures (h : RangeBitset) (st : List ℕ) (r : Tested) : Type 0 where
   pub refuses : refused (ofTested r) ≡ storageRefusal h (length st)
-  pub yes : ofTested r ≡ Number 1 → Sound h st
-  pub sound : storageRefusal h (length st) ≡ 0 → Sound h st → ofTested r ≡ Number 1
+  pub tells : storageRefusal h (length st) ≡ 0
+      → ((ofTested r ≡ Number 1) × Sound h st) ⊎ ((ofTested r ≡ Number 0) × (Sound h st → ⊥))

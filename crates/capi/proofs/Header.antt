@@ -124,10 +124,10 @@ pub record Declines (k : ℕ) (h : KladoSet) (st : List ℕ) (c : KladoSetAnswer
   pub storage : k ≢ 0 → st′ ≡ st
 
 -- `n` has the answer's numbers
-declines : (k : ℕ) → (h : KladoSet) → (st : List ℕ) → (f : Positions → Reply) → (g : Positions → Positions) → (b : Bool)
-    → (r : Reply) → (h′ : RangeBitset) → (st′ : List ℕ) → Changes k (setOf h) st f g b r h′ st′ → (n : KladoAnswer)
+declines : (k : ℕ) → (h : KladoSet) → (st : List ℕ) → (f : Positions → Reply) → (g : Positions → Positions) → (b i : Bool)
+    → (r : Reply) → (h′ : RangeBitset) → (st′ : List ℕ) → Changes k (setOf h) st f g b i r h′ st′ → (n : KladoAnswer)
     → n .refused ≡ refused r → (n .refused ≢ 0 → n .value ≡ 0) → (c : KladoSetAnswer) → c ≡ withHead n h′ → Declines k h st c st′
-declines k h st f g b r h′ st′ p n q z c w =
+declines k h st f g b i r h′ st′ p n q z c w =
     record {
       number = ap (λ (x : KladoSetAnswer). x .refused) w ∙ q ∙ p .refuses;
       value = λ y. ap (λ (x : KladoSetAnswer). x .value) w ∙ z (λ e. y (sym (p .refuses) ∙ sym q ∙ e));
@@ -138,14 +138,14 @@ declines k h st f g b r h′ st′ p n q z c w =
 pub assign-declines : (h : KladoSet) → (st : List ℕ) → (a e : ℕ) → (v : Bool) → (c : KladoSetAnswer) → (st′ : List ℕ)
     → AssignTold h st a e v c st′ → Declines (rangeRefusal (setOf h) (length st) e) h st c st′
 assign-declines h st a e v c st′ t =
-    declines _ h st _ _ _ _ _ st′ (t .promised) _ (counted-refused (t .answer .answer)) (counted-bare (t .answer .answer)) c (t .told)
+    declines _ h st _ _ _ _ _ _ st′ (t .promised) _ (counted-refused (t .answer .answer)) (counted-bare (t .answer .answer)) c (t .told)
 
 pub set-declines : (h : KladoSet) → (st : List ℕ) → (i : ℕ) → (v : Bool) → (c : KladoSetAnswer) → (st′ : List ℕ)
     → SetTold h st i v c st′ → Declines (pointRefusal (setOf h) (length st) i) h st c st′
 set-declines h st i v c st′ t =
-    declines _ h st _ _ _ _ _ st′ (t .promised) _ (tested-refused (t .answer .answer)) (tested-bare (t .answer .answer)) c (t .told)
+    declines _ h st _ _ _ _ _ _ st′ (t .promised) _ (tested-refused (t .answer .answer)) (tested-bare (t .answer .answer)) c (t .told)
 
 pub clear-declines : (h : KladoSet) → (st : List ℕ) → (c : KladoSetAnswer) → (st′ : List ℕ) → ClearTold h st c st′
     → Declines (storageRefusal (setOf h) (length st)) h st c st′
 clear-declines h st c st′ t =
-    declines _ h st _ _ _ _ _ st′ (t .promised) _ (counted-refused (t .answer .answer)) (counted-bare (t .answer .answer)) c (t .told)
+    declines _ h st _ _ _ _ _ _ st′ (t .promised) _ (counted-refused (t .answer .answer)) (counted-bare (t .answer .answer)) c (t .told)

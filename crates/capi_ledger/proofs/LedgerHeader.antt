@@ -6,7 +6,8 @@ use mathlib.Core.Logic.{_≢_, _⊎_, inl, inr}
 use mathlib.Core.List.{List, [], _∷_}
 use Prim.Native.Nat.{ℕ}
 use lib.ListN.{length}
-use Rattle.range_bitset.specs.Answers.{Reply, refused}
+use Rattle.range_bitset.specs.Answers.{Reply, refused, Accepted}
+use Rattle.range_bitset.proofs.Heads.{accepted-refused}
 use Rattle.range_bitset.specs.Answers as reply
 use Rattle.ledger.specs.Machine.{Call, Wipe}
 use Rattle.ledger.specs.Memory.{Memory, memory, callRefusal}
@@ -70,7 +71,7 @@ open-declines file j st journal c st′ t =
       storage = λ z. t .promised .unchanged (λ e. z (told-number ∙ ap number e));
     }
 
--- ---- marking, clearing, take-back and wipe: the refusal k of rules 2 to 5, and what a refused call leaves
+-- ---- marking, clearing, take-back and wipe: the refusal k that the table has on any memory, and what a refused call leaves
 
 pub record Declines (k : ℕ) (h : KladoLedger) (st j : List ℕ) (c : KladoLedgerAnswer) (st′ j′ : List ℕ) : Type 0 where
   pub refusal : k ≢ 0 → c .refused ≡ k
@@ -80,15 +81,15 @@ pub record Declines (k : ℕ) (h : KladoLedger) (st j : List ℕ) (c : KladoLedg
   pub storage : c .refused ≢ 0 → st′ ≡ st
   pub journal : c .refused ≢ 0 → j′ ≡ j
 
-six : (n : ℕ) → (r : Reply) → (Q : Type 0) → n ≡ refused r → (refused r ≡ 0) ⊎ ((r ≡ reply.Refusal 6) × Q) → (n ≡ 0) ⊎ (n ≡ 6)
-six n r Q e (inl z) = inl (e ∙ z)
+six : (n : ℕ) → (r : Reply) → (Q : Type 0) → n ≡ refused r → Accepted r ⊎ ((r ≡ reply.Refusal 6) × Q) → (n ≡ 0) ⊎ (n ≡ 6)
+six n r Q e (inl z) = inl (e ∙ accepted-refused r z)
 six n r Q e (inr s) = inr (e ∙ ap refused (s .0))
 
 declines : (k : Call) → (h : KladoLedger) → (st j st′ j′ : List ℕ) → (r : Called) → Calls k (ledgerOf h) st j st′ j′ r
     → (c : KladoLedgerAnswer) → c ≡ ofCalled r → Declines (callRefusal k (memory (ledgerOf h) st j)) h st j c st′ j′
 declines k h st j st′ j′ r p c t =
     let same : c .refused ≡ refused (reply.ofCounted (r .answer)) = ap (λ (x : KladoLedgerAnswer). x .refused) t ∙ counted-refused (r .answer) in
-    let kept : c .refused ≢ 0 → memory (r .head) st′ j′ ≡ memory (ledgerOf h) st j = λ z. p .unchanged (λ e. z (same ∙ e)) in
+    let kept : c .refused ≢ 0 → memory (r .head) st′ j′ ≡ memory (ledgerOf h) st j = λ z. p .unchanged (λ e. z (same ∙ accepted-refused (reply.ofCounted (r .answer)) e)) in
     record {
       refusal = λ z. same ∙ ap refused (p .refuses z);
       only-6 = λ z. six _ _ _ same (p .only-6 z);

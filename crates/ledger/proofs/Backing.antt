@@ -74,8 +74,8 @@ module _ (h : Ledger) (st j : List ℕ) where
     wiped =
         record {
           refuses = λ w. absurd (w z);
-          only-6 = λ w. inl (e .refuses ∙ ok);
-          unchanged = λ w. absurd (w (e .refuses ∙ ok));
+          only-6 = λ w. inl (e .accepts ok);
+          unchanged = λ w. absurd (w (e .accepts ok));
           storage-kept = e .kept;
           journal-kept = λ i w. refl;
           answers = λ m q. e .answers ok (setOf m) (q .set) ∙ ap (λ (x : ℕ). Number (count (setOf m) 0 x)) (q .capacity);
@@ -305,8 +305,8 @@ module _ (h : Ledger) (st j : List ℕ) where
     taken-back =
         record {
           refuses = λ w. absurd (w accepted);
-          only-6 = λ w. inl refl;
-          unchanged = λ w. absurd (w refl);
+          only-6 = λ w. inl tt;
+          unchanged = λ w. absurd (w tt);
           storage-kept = a .reassigns .kept;
           journal-kept = λ i w. refl;
           answers = λ m q. stands-some m q (λ x. Number count-back ≡ ofAnswer (step m Back .answer)) (λ c cs e. rw (step-back m c cs e) (ap Number (done m q c cs e .answered)));

@@ -5,7 +5,7 @@ use mathlib.Core.Bool.{Bool, true, false}
 use mathlib.Core.List.{List}
 use Prim.Native.Nat.{ℕ, _+_, _*_, _-_, _/_, _≤_, _<_}
 use native.Mathlib.Omega.{arith}
-use borrow.Author.Tests.{le-leb, lt-leb, leb-true, leb-false, ne-eqb}
+use borrow.Author.Tests.{le-leb, lt-leb, leb-true, leb-false, eq-eqb, ne-eqb}
 use lib.Dec.{leb}
 use lib.ListN.{length, take}
 use Rattle.positions.specs.Positions.{Positions, assigned}
@@ -27,7 +27,7 @@ use Rattle.ledger.specs.Entries.{Called, flagAfter}
 use Rattle.ledger.specs.Inner.{RunsFit, WritesCall}
 use Rattle.ledger.specs.declared.Ledger.{Ledger}
 use Rattle.ledger.proofs.Machines.{stayed, went, step-outside, step-full, step-range, kept-step, set-after-range, needs-added, journal-added}
-use Rattle.ledger.proofs.Refusals.{LentEnough, lent-accepted, accepted-lent, set-accepts, range-accepts, ledger-set, good-again}
+use Rattle.ledger.proofs.Refusals.{declined-as, LentEnough, lent-accepted, accepted-lent, set-accepts, range-accepts, ledger-set, good-again}
 
 -- a head with another's word count and a population within the capacity is as good
 good-after : (h h′ : RangeBitset) → goodHead h ≡ true → h′ .words ≡ h .words → h′ .len ≤ capacityOf h′ → goodHead h′ ≡ true
@@ -49,9 +49,13 @@ module _ (h : Ledger) (st j : List ℕ) (a e : ℕ) (v : Bool) where
   unfolding callRefusal
   call-outside p n = rw (p, lt-leb e (capacityOf (h .set)) n)
 
-  call-passes : lentRefusal h (length st) (length j) ≡ 0 → e ≤ capacityOf (h .set) → callRefusal (Range a e v) before ≡ 0
+  call-none-left : lentRefusal h (length st) (length j) ≡ 0 → e ≤ capacityOf (h .set) → h .used ≡ h .journal → callRefusal (Range a e v) before ≡ 6
   unfolding callRefusal
-  call-passes p n = rw (p, le-leb e (capacityOf (h .set)) n)
+  call-none-left p n o = rw (p, le-leb e (capacityOf (h .set)) n, eq-eqb (h .used) (h .journal) o)
+
+  call-passes : lentRefusal h (length st) (length j) ≡ 0 → e ≤ capacityOf (h .set) → (h .used ≡ h .journal → ⊥) → callRefusal (Range a e v) before ≡ 0
+  unfolding callRefusal
+  call-passes p n o = rw (p, le-leb e (capacityOf (h .set)) n, ne-eqb (h .used) (h .journal) o)
 
   -- the set's own calls then pass too
   accepted : lentRefusal h (length st) (length j) ≡ 0 → e ≤ capacityOf (h .set) → rangeRefusal (h .set) (length st) e ≡ 0
@@ -61,15 +65,10 @@ module _ (h : Ledger) (st j : List ℕ) (a e : ℕ) (v : Bool) where
 
   -- ---- refused: nothing is changed
 
-  -- the answer and the head as `declined` gives them
-  declined-as : (k : ℕ) (r : Counted) (h′ : Ledger) → r ≡ counted.Refused k → h′ ≡ h → Called (Range a e v) before (Refusal k) before
-      → Called (Range a e v) before (ofCounted r) (memory h′ st j)
-  declined-as k r h′ p q c = rw (p, q) c
-
   pub not-lent : (k : ℕ) (r : Counted) (h′ : Ledger) → r ≡ counted.Refused k → h′ ≡ h → k ≡ lentRefusal h (length st) (length j) → (k ≡ 0 → ⊥)
       → Called (Range a e v) before (ofCounted r) (memory h′ st j)
   not-lent k r h′ p q l n =
-      declined-as k r h′ p q
+      declined-as (Range a e v) h st j k r h′ p q
       (record {
         refuses = λ z. ap Refusal (sym (call-lent k l n));
         only-6 = λ z. absurd (n (sym (call-lent k l n) ∙ z));
@@ -84,7 +83,7 @@ module _ (h : Ledger) (st j : List ℕ) (a e : ℕ) (v : Bool) where
   pub outside : (r : Counted) (h′ : Ledger) → r ≡ counted.Refused 4 → h′ ≡ h → lentRefusal h (length st) (length j) ≡ 0 → capacityOf (h .set) < e
       → Called (Range a e v) before (ofCounted r) (memory h′ st j)
   outside r h′ p q l n =
-      declined-as 4 r h′ p q
+      declined-as (Range a e v) h st j 4 r h′ p q
       (record {
         refuses = λ z. ap Refusal (sym (call-outside l n));
         only-6 = λ z. absurd (let y : _≡_ {A = ℕ} 4 0 = sym (call-outside l n) ∙ z in omega arith);
@@ -101,12 +100,13 @@ module _ (h : Ledger) (st j : List ℕ) (a e : ℕ) (v : Bool) where
 
   -- more numbers are needed than the journal has left
   full : (r : Counted) (h′ : Ledger) → r ≡ counted.Refused 6 → h′ ≡ h → lentRefusal h (length st) (length j) ≡ 0 → e ≤ capacityOf (h .set)
+      → ((callRefusal (Range a e v) before ≡ 0 → ⊥) → callRefusal (Range a e v) before ≡ 6)
       → ((s : Positions) → Represents (h .set) st s → h .journal - h .used < needOf s a e v)
       → Called (Range a e v) before (ofCounted r) (memory h′ st j)
-  full r h′ p q l n more =
-      declined-as 6 r h′ p q
+  full r h′ p q l n six more =
+      declined-as (Range a e v) h st j 6 r h′ p q
       (record {
-        refuses = λ z. absurd (z (call-passes l n));
+        refuses = λ z. ap Refusal (sym (six z));
         only-6 = λ z. inr (refl, refl);
         unchanged = λ z. refl;
         storage-kept = refl;
@@ -123,15 +123,15 @@ module _ (h : Ledger) (st j : List ℕ) (a e : ℕ) (v : Bool) where
   pub none-left : (r : Counted) (h′ : Ledger) → r ≡ counted.Refused 6 → h′ ≡ h → lentRefusal h (length st) (length j) ≡ 0 → e ≤ capacityOf (h .set)
       → h .used ≡ h .journal → Called (Range a e v) before (ofCounted r) (memory h′ st j)
   unfolding needOf
-  none-left r h′ p q l n o = full r h′ p q l n (λ s x. omega arith)
+  none-left r h′ p q l n o = full r h′ p q l n (λ z. call-none-left l n o) (λ s x. omega arith)
 
   -- more runs than fit
   pub too-many : (most : ℕ) (fit : Bool) (r : Counted) (h′ : Ledger) → r ≡ counted.Refused 6 → h′ ≡ h → lentRefusal h (length st) (length j) ≡ 0
-      → e ≤ capacityOf (h .set) → most ≡ (h .journal - h .used - 1) / 2 → RunsFit (h .set) st a e v most fit → fit ≡ false
+      → e ≤ capacityOf (h .set) → (h .used ≡ h .journal → ⊥) → most ≡ (h .journal - h .used - 1) / 2 → RunsFit (h .set) st a e v most fit → fit ≡ false
       → Called (Range a e v) before (ofCounted r) (memory h′ st j)
   unfolding needOf
-  too-many most fit r h′ p q l n o c d =
-      full r h′ p q l n
+  too-many most fit r h′ p q l n some o c d =
+      full r h′ p q l n (λ z. absurd (z (call-passes l n some)))
       (λ s x. omega (arith, leb-false (length (changedRuns s a e v)) most (sym (c (accepted l n) s x) ∙ d)))
 
   -- ---- done: the runs are recorded, then the range is given its value
@@ -216,9 +216,9 @@ module _ (h : Ledger) (st j : List ℕ) (a e : ℕ) (v : Bool) where
     pub recorded : Called (Range a e v) before (ofCounted (r .answer)) next
     recorded =
         record {
-          refuses = λ z. absurd (z (call-passes lent end-within));
-          only-6 = λ z. inl (changes .refuses ∙ passes);
-          unchanged = λ z. absurd (z (changes .refuses ∙ passes));
+          refuses = λ z. absurd (z (call-passes lent end-within some));
+          only-6 = λ z. inl (changes .accepts passes);
+          unchanged = λ z. absurd (z (changes .accepts passes));
           storage-kept = changes .kept;
           journal-kept = writes .others;
           answers = λ m x. rw (goes m x) (changes .answers passes (setOf m) (x .set));

@@ -1,4 +1,4 @@
--- Laws of the refusals 2 and 3: what an accepted head and lent slices say, and what each test of the code decides. Assumes nothing.
+-- Laws of the refusals 2 and 3: how a declined call answers, what an accepted head and lent slices say, and what each test of the code decides. Assumes nothing.
 use mathlib.Core.Path.{_≡_, refl, sym, ap, _∙_}
 use mathlib.Core.Bool.{Bool, true, false, _&&_, cond}
 use mathlib.Core.List.{List}
@@ -17,9 +17,16 @@ use Rattle.range_bitset.specs.declared.Counted.{Counted}
 use Rattle.range_bitset.specs.declared.Counted.the-variants as counted
 use Rattle.range_bitset.specs.declared.RangeBitset.{RangeBitset}
 use Rattle.range_bitset.proofs.Heads.{good-bounds}
-use Rattle.ledger.specs.Memory.{goodLedger, longStorage, lentRefusal, wipeRefusal}
-use Rattle.ledger.specs.Entries.{lentEnough}
+use Rattle.ledger.specs.Machine.{Call}
+use Rattle.ledger.specs.Memory.{memory, goodLedger, longStorage, lentRefusal, wipeRefusal}
+use Rattle.ledger.specs.Entries.{Called, lentEnough}
 use Rattle.ledger.specs.declared.Ledger.{Ledger}
+
+-- ---- the answer and the head as `declined` gives them
+
+pub declined-as : (c : Call) (h : Ledger) (st j : List ℕ) (k : ℕ) (r : Counted) (h′ : Ledger) → r ≡ counted.Refused k → h′ ≡ h
+    → Called c (memory h st j) (Refusal k) (memory h st j) → Called c (memory h st j) (ofCounted r) (memory h′ st j)
+declined-as c h st j k r h′ p q d = rw (p, q) d
 
 -- ---- what is lent is enough
 

@@ -11,9 +11,9 @@ use Rattle.range_bitset.specs.Answers.{Reply}
 use Rattle.saved_list.specs.Format.{savedCapacity, savedPositions}
 use Rattle.ledger.specs.Machine.{Machine, fresh, openedWith, Call, Wipe}
 use Rattle.ledger.specs.Memory.{Memory, memory, Holds}
-use Rattle.ledger.specs.Entries.{Called, newOf, refusalOf, openRefusal, OpenEnsures}
+use Rattle.ledger.specs.Entries.{Called, newOf, refusalOf, OpenEnsures}
 use Rattle.ledger.specs.History.{by-new, Chain, none, call}
-use Rattle.ledger.specs.Replay.{Encoded, callOf, callsTo, fitting, codeOf, refusalIn, Replays}
+use Rattle.ledger.specs.Replay.{Encoded, callOf, callsTo, fitting, codeOf, refusalIn, Replays, GivenByNew, GivenByOpen, ReplaysNew, ReplaysOpen}
 use Rattle.ledger.specs.Inner.{Chained, Continues}
 use Rattle.ledger.specs.declared.Ledger.{Ledger}
 use Rattle.ledger.specs.declared.Opened.{Opened}
@@ -118,11 +118,11 @@ head-of (opened.Refused k) e = absurd (omega (arith, ap (λ (x : List ℕ). leng
 head-of (opened.BadRun i) e = absurd (omega (arith, ap (λ (x : List ℕ). length x) e))
 
 -- st is the storage before new or open, st₁ after
-module _ (m : Machine) (l : Encoded) (st st₁ journal answers : List ℕ) (o : Opened) (r : Replayed) (st′ journal′ answers′ : List ℕ) where
-  replays : ((start : Ledger) → o ≡ opened.Head start → Holds (memory start st₁ journal) m)
+module _ (Given : Memory → Type 0) (m : Machine) (l : Encoded) (st st₁ journal answers : List ℕ) (o : Opened) (r : Replayed) (st′ journal′ answers′ : List ℕ) where
+  replays : ((start : Ledger) → o ≡ opened.Head start → Given (memory start st₁ journal) × Holds (memory start st₁ journal) m)
       → ((refusalOf o ≡ [] → ⊥) → st₁ ≡ st) → Continues o l st₁ journal answers r st′ journal′ answers′
-      → Replays (refusalOf o) m l st journal answers r st′ journal′ answers′
-  replays holds same k =
+      → Replays (refusalOf o) Given m l st journal answers r st′ journal′ answers′
+  replays accepted same k =
       record {
         refuses = k .refuses;
         unchanged = λ z. let w : refusalOf o ≡ [] → ⊥ = λ p. z (k .refuses ∙ p) in
@@ -130,27 +130,33 @@ module _ (m : Machine) (l : Encoded) (st st₁ journal answers : List ℕ) (o : 
         ran =
             λ h n p. let q = head-of o (sym (k .refuses) ∙ ap refusalIn p) in
             let t : Chained n (memory (q .0) st₁ journal) l answers answers′ (memory h st′ journal′) = k .ran h n p .1 (q .0) (q .1) in
+            let a = accepted (q .0) (q .1) in
             record {
               all = k .ran h n p .0;
               others = t .others;
               replies = t .replies;
               written = t .written;
-              agrees = chain-agrees (memory (q .0) st₁ journal) (memory h st′ journal′) m (callsTo l n) (t .replies) (holds (q .0) (q .1)) (t .chain);
+              start = memory (q .0) st₁ journal;
+              given = a .0;
+              chain = t .chain;
+              agrees = chain-agrees (memory (q .0) st₁ journal) (memory h st′ journal′) m (callsTo l n) (t .replies) (a .1) (t .chain);
             };
       }
 
 pub replays-new : (capacity j : ℕ) (l : Encoded) (st journal answers : List ℕ) (o : Opened) (r : Replayed) (st′ journal′ answers′ : List ℕ)
     → o ≡ newOf capacity j (length st) (length journal) → Continues o l st journal answers r st′ journal′ answers′
-    → Replays (refusalOf (newOf capacity j (length st) (length journal))) (fresh capacity j) l st journal answers r st′ journal′ answers′
+    → ReplaysNew capacity j l st journal answers r st′ journal′ answers′
 replays-new capacity j l st journal answers o r st′ journal′ answers′ e k =
-    subst (λ (x : List ℕ). Replays x (fresh capacity j) l st journal answers r st′ journal′ answers′) (ap refusalOf e)
-    (replays (fresh capacity j) l st st journal answers o r st′ journal′ answers′
-    (λ start p. begun (memory start st journal) (fresh capacity j) (by-new (sym e ∙ p))) (λ z. refl) k)
+    subst (λ (x : List ℕ). Replays x (GivenByNew capacity j st journal) (fresh capacity j) l st journal answers r st′ journal′ answers′)
+    (ap refusalOf e)
+    (replays (GivenByNew capacity j st journal) (fresh capacity j) l st st journal answers o r st′ journal′ answers′
+    (λ start p. ((sym e ∙ p, refl, refl), begun (memory start st journal) (fresh capacity j) (by-new (sym e ∙ p)))) (λ z. refl) k)
 
 pub replays-open : (file : List ℕ) (j : ℕ) (l : Encoded) (st st₁ journal answers : List ℕ) (o : Opened) (r : Replayed) (st′ journal′ answers′ : List ℕ)
     → OpenEnsures file j st journal o st₁ → Continues o l st₁ journal answers r st′ journal′ answers′
-    → Replays (openRefusal file j (length st) (length journal)) (openedWith (savedCapacity file) j (savedPositions file)) l st journal answers r st′ journal′ answers′
+    → ReplaysOpen file j l st journal answers r st′ journal′ answers′
 replays-open file j l st st₁ journal answers o r st′ journal′ answers′ e k =
     let m : Machine = openedWith (savedCapacity file) j (savedPositions file) in
-    subst (λ (x : List ℕ). Replays x m l st journal answers r st′ journal′ answers′) (e .refuses)
-    (replays m l st st₁ journal answers o r st′ journal′ answers′ (e .holds) (e .unchanged) k)
+    subst (λ (x : List ℕ). Replays x (GivenByOpen file j st journal) m l st journal answers r st′ journal′ answers′) (e .refuses)
+    (replays (GivenByOpen file j st journal) m l st st₁ journal answers o r st′ journal′ answers′
+    (λ start p. ((subst (λ (x : Opened). OpenEnsures file j st journal x st₁) p e, refl), e .holds start p)) (e .unchanged) k)

@@ -8,7 +8,7 @@ use lib.Dec.{eqb, leb, ltb}
 use lib.ListN.{length, getD, drop}
 use Rattle.positions.specs.Positions.{Positions}
 use Rattle.range_bitset.specs.Layout.{needed}
-use Rattle.range_bitset.specs.Answers.{Reply, Number, Nothing, Refusal, refused, allowedCapacity}
+use Rattle.range_bitset.specs.Answers.{Reply, Number, Nothing, Refusal, Accepted, allowedCapacity}
 use Rattle.range_bitset.specs.declared.RangeBitset.{RangeBitset}
 use Rattle.saved_list.specs.Format.{savedWords, savedCount, savedCapacity, savedPositions, headed, whole, firstBadRun}
 use Rattle.ledger.specs.Machine.{Machine, Standing, openedWith, Call, Range, Back, Wipe, Answer, Done, Refused, step}
@@ -47,11 +47,12 @@ flagAfter x m Back (Refusal k) = x
 flagAfter x m Wipe r = x
 
 pub record Called (c : Call) (before : Memory) (r : Reply) (next : Memory) : Type 0 where
-  -- on any memory: 2, 3, 4 and 5 exactly as the table has them; 6 is the only other refusal, and only of a marking or clearing
+  -- on any memory: 2, 3, 4 and 5 exactly as the table has them, and 6 where no number is left; 6 is the only other refusal, and
+  -- only of a marking or clearing
   pub refuses : (callRefusal c before ≡ 0 → ⊥) → r ≡ Refusal (callRefusal c before)
-  pub only-6 : callRefusal c before ≡ 0 → (refused r ≡ 0) ⊎ ((r ≡ Refusal 6) × (ranges c ≡ true))
+  pub only-6 : callRefusal c before ≡ 0 → Accepted r ⊎ ((r ≡ Refusal 6) × (ranges c ≡ true))
   -- a refused call changes nothing
-  pub unchanged : (refused r ≡ 0 → ⊥) → next ≡ before
+  pub unchanged : (Accepted r → ⊥) → next ≡ before
   -- storage past the needed numbers, and journal numbers outside old U to new U, are as they were
   pub storage-kept : drop (needed (before .head .set .words)) (next .storage) ≡ drop (needed (before .head .set .words)) (before .storage)
   pub journal-kept : (i : ℕ) → (i < before .head .used) ⊎ (next .head .used ≤ i) → getD (next .journal) i 0 ≡ getD (before .journal) i 0

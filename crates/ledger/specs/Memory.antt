@@ -21,7 +21,7 @@ pub record Memory : Type 0 where
 abbrev pub memory : Ledger → List ℕ → List ℕ → Memory
 memory h st j = record { head = h; storage = st; journal = j }
 
--- ---- the refusals of 01's table, but for 6: 0 where a call passes them
+-- ---- the refusals of 01's table, as far as the set's positions do not matter: 0 where a call passes them
 
 -- 2: the set's head, J above 16,384, or U above J
 unfoldable pub goodLedger : Ledger → Bool
@@ -38,10 +38,12 @@ lentRefusal h n k = cond (goodLedger h) (cond (longStorage h n && leb (h .journa
 unfoldable pub wipeRefusal : Ledger → ℕ → ℕ
 wipeRefusal h n = cond (goodLedger h) (cond (longStorage h n) 0 3) 2
 
--- 4: an end above the capacity (a point p ends at p + 1); 5: take-back with U = 0
+-- 4: an end above the capacity (a point p ends at p + 1); 6: U = J, since every marking and clearing needs a number;
+-- 5: take-back with U = 0
 unfoldable pub callRefusal : Call → Memory → ℕ
 callRefusal (Range a e v) x =
-    first-of (lentRefusal (x .head) (length (x .storage)) (length (x .journal))) (cond (leb e (capacityOf (x .head .set))) 0 4)
+    first-of (lentRefusal (x .head) (length (x .storage)) (length (x .journal)))
+    (cond (leb e (capacityOf (x .head .set))) (cond (eqb (x .head .used) (x .head .journal)) 6 0) 4)
 callRefusal Back x = first-of (lentRefusal (x .head) (length (x .storage)) (length (x .journal))) (cond (eqb (x .head .used) 0) 5 0)
 callRefusal Wipe x = wipeRefusal (x .head) (length (x .storage))
 

@@ -7,10 +7,13 @@ use Prim.Native.Nat.{ℕ, zero, suc, _+_, min}
 use lib.Dec.{eqb}
 use lib.ListN.{length, getD, take, drop}
 use Rattle.range_bitset.specs.Answers.{Reply, Number, Nothing, Refusal}
-use Rattle.ledger.specs.Machine.{Machine, Call, Range, Back, Wipe, point, after}
+use Rattle.saved_list.specs.Format.{savedCapacity, savedPositions}
+use Rattle.ledger.specs.Machine.{Machine, fresh, openedWith, Call, Range, Back, Wipe, point, after}
 use Rattle.ledger.specs.Memory.{Memory, memory}
-use Rattle.ledger.specs.History.{Agrees}
+use Rattle.ledger.specs.Entries.{newOf, refusalOf, openRefusal, OpenEnsures}
+use Rattle.ledger.specs.History.{Chain, Agrees}
 use Rattle.ledger.specs.declared.Ledger.{Ledger}
+use Rattle.ledger.specs.declared.Opened.the-variants as opened
 use Rattle.ledger.specs.declared.replay.Replayed.{Replayed}
 use Rattle.ledger.specs.declared.replay.Replayed.the-variants as replayed
 
@@ -47,12 +50,16 @@ codeOf (Refusal k) = 4294967296 + k
 
 -- ---- the promise
 
--- n calls run from a ledger fed as the machine m: as many as fit, their answers written, those numbers alone, and demand 3
-pub record RanAll (m : Machine) (l : Encoded) (answers : List ℕ) (n : ℕ) (answers′ : List ℕ) (end : Memory) : Type 0 where
+-- n calls run from a ledger that new or open has just given (`Given`), the machine m fed the same: as many as fit, their
+-- answers written, those numbers alone; the entries' own promises one after the other; and demand 3
+pub record RanAll (Given : Memory → Type 0) (m : Machine) (l : Encoded) (answers : List ℕ) (n : ℕ) (answers′ : List ℕ) (end : Memory) : Type 0 where
   pub all : n ≡ fitting l (length answers)
   pub others : drop n answers′ ≡ drop n answers
   pub replies : List Reply
   pub written : take n answers′ ≡ map codeOf replies
+  pub start : Memory
+  pub given : Given start
+  pub chain : Chain start (callsTo l n) replies end
   pub agrees : Agrees (after m (callsTo l n)) replies end
 
 -- a refusal's number and, for 8, the first bad run's index; none where new or open is accepted
@@ -61,9 +68,28 @@ refusalIn (replayed.Ran h n) = []
 refusalIn (replayed.Refused k) = k ∷ []
 refusalIn (replayed.BadRun i) = 8 ∷ i ∷ []
 
--- `refusal` is that of new or open, m the machine fed the same: refused exactly so, and then nothing is changed; or all run
-pub record Replays (refusal : List ℕ) (m : Machine) (l : Encoded) (st journal answers : List ℕ) (r : Replayed)
+-- `refusal` is that of new or open: refused exactly so, and then nothing is changed; or all run
+pub record Replays (refusal : List ℕ) (Given : Memory → Type 0) (m : Machine) (l : Encoded) (st journal answers : List ℕ) (r : Replayed)
     (st′ journal′ answers′ : List ℕ) : Type 0 where
   pub refuses : refusalIn r ≡ refusal
   pub unchanged : (refusalIn r ≡ [] → ⊥) → (st′ ≡ st) × (journal′ ≡ journal) × (answers′ ≡ answers)
-  pub ran : (h : Ledger) (n : ℕ) → r ≡ replayed.Ran h n → RanAll m l answers n answers′ (memory h st′ journal′)
+  pub ran : (h : Ledger) (n : ℕ) → r ≡ replayed.Ran h n → RanAll Given m l answers n answers′ (memory h st′ journal′)
+
+-- from what new gives, lent st and journal: it writes neither
+abbrev pub GivenByNew : ℕ → ℕ → List ℕ → List ℕ → Memory → Type 0
+GivenByNew capacity j st journal x =
+    (newOf capacity j (length st) (length journal) ≡ opened.Head (x .head)) × (x .storage ≡ st) × (x .journal ≡ journal)
+
+abbrev pub ReplaysNew : ℕ → ℕ → Encoded → List ℕ → List ℕ → List ℕ → Replayed → List ℕ → List ℕ → List ℕ → Type 0
+ReplaysNew capacity j l st journal answers r st′ journal′ answers′ =
+    Replays (refusalOf (newOf capacity j (length st) (length journal))) (GivenByNew capacity j st journal) (fresh capacity j) l
+    st journal answers r st′ journal′ answers′
+
+-- from what open gives, lent st and journal
+abbrev pub GivenByOpen : List ℕ → ℕ → List ℕ → List ℕ → Memory → Type 0
+GivenByOpen file j st journal x = OpenEnsures file j st journal (opened.Head (x .head)) (x .storage) × (x .journal ≡ journal)
+
+abbrev pub ReplaysOpen : List ℕ → ℕ → Encoded → List ℕ → List ℕ → List ℕ → Replayed → List ℕ → List ℕ → List ℕ → Type 0
+ReplaysOpen file j l st journal answers r st′ journal′ answers′ =
+    Replays (openRefusal file j (length st) (length journal)) (GivenByOpen file j st journal)
+    (openedWith (savedCapacity file) j (savedPositions file)) l st journal answers r st′ journal′ answers′

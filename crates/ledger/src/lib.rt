@@ -29,7 +29,7 @@ use saved_list::RunCheck;
 // The longest journal.
 const JOURNAL_MOST: u32 = 16384;
 
-// A ledger's head: the set's head, the journal's length J and how many of its numbers are in use, U.
+// A ledger's head: the set's head, how many journal numbers it may use, J, and how many are in use, U.
 pub struct Ledger {
     pub set: RangeBitset,
     pub journal: u32,
@@ -64,39 +64,39 @@ pub struct Reassigned {
 
 impl Ledger {
     // A fresh ledger. Nothing is written.
-    pub fn new(capacity: usize, journal: usize, storage: &[u64], lent: &[u32]) -> Opened
-        ensures { λ r. ⌜ r ≡ newOf capacity journal (length (now (storage .entry))) (length (now (lent .entry))) ⌝ }
+    pub fn new(capacity: usize, limit: usize, storage: &[u64], journal: &[u32]) -> Opened
+        ensures { λ r. ⌜ r ≡ newOf capacity limit (length (now (storage .entry))) (length (now (journal .entry))) ⌝ }
     {
         let Made::Head(set) = RangeBitset::new(capacity) else {
             return Opened::Refused(1);
         };
-        if journal > JOURNAL_MOST as usize {
+        if limit > JOURNAL_MOST as usize {
             return Opened::Refused(1);
         }
-        if !Self::lent_enough(set.words as usize, journal, storage.len(), lent.len()) {
+        if !Self::lent_enough(set.words as usize, limit, storage.len(), journal.len()) {
             return Opened::Refused(3);
         }
         Opened::Head(Ledger {
             set,
-            journal: journal as u32,
+            journal: limit as u32,
             used: 0,
         })
     }
 
     // Whether so many storage and journal numbers are enough.
-    fn lent_enough(words: usize, journal: usize, storage_len: usize, journal_len: usize) -> bool
+    fn lent_enough(words: usize, limit: usize, storage_len: usize, journal_len: usize) -> bool
         requires { ⌜ words ≤ 4096 ⌝ }
-        ensures { λ r. ⌜ r ≡ lentEnough words journal «storage_len» «journal_len» ⌝ }
+        ensures { λ r. ⌜ r ≡ lentEnough words limit «storage_len» «journal_len» ⌝ }
     {
         if storage_len < words + 3 * ((words + 63) / 64) + 2 {
             return false;
         }
-        journal <= journal_len
+        limit <= journal_len
     }
 
     // A ledger opened on a saved list. Every run is checked before anything is written.
-    pub fn open(file: &[u8], journal: usize, storage: &mut [u64], lent: &[u32]) -> Opened
-        ensures { λ r. ⌜ OpenEnsures (now (file .entry)) journal (now (storage .entry)) (now (lent .entry)) r (now (storage .exit)) ⌝ }
+    pub fn open(file: &[u8], limit: usize, storage: &mut [u64], journal: &[u32]) -> Opened
+        ensures { λ r. ⌜ OpenEnsures (now (file .entry)) limit (now (storage .entry)) (now (journal .entry)) r (now (storage .exit)) ⌝ }
     {
         let Header::Fields(words, runs) = saved_list::read_header(file) else {
             return Opened::Refused(7);
@@ -104,13 +104,13 @@ impl Ledger {
         let Made::Head(set) = RangeBitset::new(64 * words as usize) else {
             return Opened::Refused(1);
         };
-        if journal > JOURNAL_MOST as usize {
+        if limit > JOURNAL_MOST as usize {
             return Opened::Refused(1);
         }
         let LengthCheck::GoodLength = saved_list::check_length(file) else {
             return Opened::Refused(7);
         };
-        if !Self::lent_enough(words as usize, journal, storage.len(), lent.len()) {
+        if !Self::lent_enough(words as usize, limit, storage.len(), journal.len()) {
             return Opened::Refused(3);
         }
         if let RunCheck::BadRun(index) = saved_list::check_runs(file) {
@@ -119,7 +119,7 @@ impl Ledger {
         let set = Self::assign_file(set, storage, file, runs);
         Opened::Head(Ledger {
             set,
-            journal: journal as u32,
+            journal: limit as u32,
             used: 0,
         })
     }
@@ -158,17 +158,11 @@ impl Ledger {
     {
         let refused = Self::refusal(self, storage.len(), journal.len());
         if refused != 0 {
-            return Called {
-                answer: Counted::Refused(refused),
-                head: self,
-            };
+            return Self::declined(self, refused);
         }
         let used = self.used;
         let Last::Standing(runs, value) = Self::last_call(journal, used) else {
-            return Called {
-                answer: Counted::Refused(5),
-                head: self,
-            };
+            return Self::declined(self, 5);
         };
         let limit = self.journal;
         let set = self.set;
@@ -191,10 +185,7 @@ impl Ledger {
     {
         let refused = Self::wipe_refusal(self, storage.len());
         if refused != 0 {
-            return Called {
-                answer: Counted::Refused(refused),
-                head: self,
-            };
+            return Self::declined(self, refused);
         }
         let limit = self.journal;
         let set = self.set;
@@ -307,7 +298,7 @@ impl Ledger {
         }
     }
 
-    // A point past every capacity has no end of its own.
+    // The last index of all is past every capacity, and one more would overflow.
     fn assign_point(
         head: Ledger,
         storage: &mut [u64],

@@ -4,11 +4,9 @@ ghost use mathlib.Core.Path.{_≡_};
 ghost use Prim.Native.Nat.{_≤_, min};
 ghost use lib.ListN.{length};
 ghost use Rattle.range_bitset.specs.Answers.{ofCounted};
-ghost use Rattle.saved_list.specs.Format.{savedCapacity, savedPositions};
-ghost use Rattle.ledger.specs.Machine.{fresh, openedWith};
 ghost use Rattle.ledger.specs.Memory.{memory};
-ghost use Rattle.ledger.specs.Entries.{Called as CallEnsures, newOf, refusalOf, openRefusal};
-ghost use Rattle.ledger.specs.Replay.{encoded, callOf, codeOf, Replays};
+ghost use Rattle.ledger.specs.Entries.{Called as CallEnsures};
+ghost use Rattle.ledger.specs.Replay.{encoded, callOf, codeOf, ReplaysNew, ReplaysOpen};
 ghost use Rattle.ledger.specs.Inner.{Chained, Continues};
 use crate::Called;
 use crate::Ledger;
@@ -35,7 +33,7 @@ pub fn replay_new(
     ends: &[u64],
     answers: &mut [u64],
 ) -> Replayed
-    ensures { λ r. ⌜ Replays (refusalOf (newOf capacity limit (length (now (storage .entry))) (length (now (journal .entry))))) (fresh capacity limit) (encoded (now (kinds .entry)) (now (starts .entry)) (now (ends .entry))) (now (storage .entry)) (now (journal .entry)) (now (answers .entry)) r (now (storage .exit)) (now (journal .exit)) (now (answers .exit)) ⌝ }
+    ensures { λ r. ⌜ ReplaysNew capacity limit (encoded (now (kinds .entry)) (now (starts .entry)) (now (ends .entry))) (now (storage .entry)) (now (journal .entry)) (now (answers .entry)) r (now (storage .exit)) (now (journal .exit)) (now (answers .exit)) ⌝ }
 {
     let opened = Ledger::new(capacity, limit, storage, journal);
     replay(opened, storage, journal, kinds, starts, ends, answers)
@@ -52,7 +50,7 @@ pub fn replay_open(
     ends: &[u64],
     answers: &mut [u64],
 ) -> Replayed
-    ensures { λ r. ⌜ Replays (openRefusal (now (file .entry)) limit (length (now (storage .entry))) (length (now (journal .entry)))) (openedWith (savedCapacity (now (file .entry))) limit (savedPositions (now (file .entry)))) (encoded (now (kinds .entry)) (now (starts .entry)) (now (ends .entry))) (now (storage .entry)) (now (journal .entry)) (now (answers .entry)) r (now (storage .exit)) (now (journal .exit)) (now (answers .exit)) ⌝ }
+    ensures { λ r. ⌜ ReplaysOpen (now (file .entry)) limit (encoded (now (kinds .entry)) (now (starts .entry)) (now (ends .entry))) (now (storage .entry)) (now (journal .entry)) (now (answers .entry)) r (now (storage .exit)) (now (journal .exit)) (now (answers .exit)) ⌝ }
 {
     let opened = Ledger::open(file, limit, storage, journal);
     replay(opened, storage, journal, kinds, starts, ends, answers)

@@ -14,13 +14,13 @@ use Rattle.positions.proofs.Assigned.{assigned-count, assigned-empty, assigned-
 use Rattle.bits.proofs.Bits.{bit-pow}
 use Rattle.range_bitset.specs.Layout.{needed}
 use Rattle.range_bitset.specs.Represents.{Stored, Represents, capacityOf}
-use Rattle.range_bitset.specs.Answers.{Reply, Number, Refusal, refused, rangeRefusal, pointRefusal, storageRefusal}
+use Rattle.range_bitset.specs.Answers.{Reply, Number, Refusal, refused, Accepted, rangeRefusal, pointRefusal, storageRefusal}
 use Rattle.range_bitset.specs.Entries.{Changes, AssignEnsures, SetEnsures, ClearEnsures}
 use Rattle.range_bitset.specs.Inner.{Room, Spans, Begins, Assigns}
 use Rattle.range_bitset.specs.declared.RangeBitset.{RangeBitset}
 use Rattle.range_bitset.specs.declared.Counted.the-variants as counted
 use Rattle.range_bitset.specs.declared.Tested.the-variants as tested
-use Rattle.range_bitset.proofs.Heads.{range-accepted, point-accepted}
+use Rattle.range_bitset.proofs.Heads.{range-accepted, point-accepted, accepted-refused}
 
 abbrev headOf : ℕ → ℕ → Bool → RangeBitset
 headOf W n x = record { words = W; len = n; allocated = x }
@@ -30,29 +30,33 @@ head-is h n x p q = λ i. record { words = h .words; len = p i; allocated = q i 
 
 -- ---- the three ways out
 
-module _ {f : Positions → Reply} {g : Positions → Positions} {begins : Bool} (k : ℕ) (h : RangeBitset) (st : List ℕ) where
+module _ {f : Positions → Reply} {g : Positions → Positions} {begins clears : Bool} (k : ℕ) (h : RangeBitset) (st : List ℕ) where
   -- refused
-  pub unaccepted : (n : ℕ) (r : Reply) → n ≡ k → (n ≡ 0 → ⊥) → r ≡ Refusal n → Changes k h st f g begins r h st
+  pub unaccepted : (n : ℕ) (r : Reply) → n ≡ k → (n ≡ 0 → ⊥) → r ≡ Refusal n → Changes k h st f g begins clears r h st
   unaccepted n r e z q =
       record {
         refuses = ap refused q ∙ e;
+        accepts = λ w. absurd (z (e ∙ w));
         unchanged = λ w. (refl, refl);
         kept = refl;
         same-words = refl;
+        idle = λ w o. (refl, refl);
         answers = λ w. absurd (z (e ∙ w));
         head = λ w. absurd (z (e ∙ w));
         represents = λ w. absurd (z (e ∙ w));
       }
 
   -- accepted, and the set is as it was
-  pub same-set : (r : Reply) → k ≡ 0 → refused r ≡ 0 → ((s : Positions) → Represents h st s → (r ≡ f s) × (g s ≡ s) × (h .allocated ≡ (h .allocated || begins)))
-      → Changes k h st f g begins r h st
+  pub same-set : (r : Reply) → k ≡ 0 → Accepted r → ((s : Positions) → Represents h st s → (r ≡ f s) × (g s ≡ s) × (h .allocated ≡ (h .allocated || begins)))
+      → Changes k h st f g begins clears r h st
   same-set r e z q =
       record {
-        refuses = z ∙ sym e;
+        refuses = accepted-refused r z ∙ sym e;
+        accepts = λ w. z;
         unchanged = λ w. (refl, refl);
         kept = refl;
         same-words = refl;
+        idle = λ w o. (refl, refl);
         answers = λ w s t. q s t .0;
         head = λ w s t.
             head-is h _ _ (t .counted ∙ ap (λ (x : Positions). count x 0 (capacityOf h)) (sym (q s t .1))) (q s t .2);
@@ -60,15 +64,17 @@ module _ {f : Positions → Reply} {g : Positions → Positions} {begins : Bool}
       }
 
   -- accepted, and the storage holds another set
-  pub new-set : (r : Reply) (n : ℕ) (st′ : List ℕ) → k ≡ 0 → refused r ≡ 0 → drop (needed (h .words)) st′ ≡ drop (needed (h .words)) st
+  pub new-set : (r : Reply) (n : ℕ) (st′ : List ℕ) → k ≡ 0 → Accepted r → (clears ≡ true → h .len ≡ 0 → ⊥) → drop (needed (h .words)) st′ ≡ drop (needed (h .words)) st
       → ((s : Positions) → Represents h st s → (r ≡ f s) × (n ≡ count (g s) 0 (capacityOf h)) × (true ≡ (h .allocated || begins)) × Stored (h .words) st′ (g s))
-      → Changes k h st f g begins r (headOf (h .words) n true) st′
-  new-set r n st′ e z d q =
+      → Changes k h st f g begins clears r (headOf (h .words) n true) st′
+  new-set r n st′ e z busy d q =
       record {
-        refuses = z ∙ sym e;
+        refuses = accepted-refused r z ∙ sym e;
+        accepts = λ w. z;
         unchanged = λ w. absurd (w e);
         kept = d;
         same-words = refl;
+        idle = λ w o. absurd (busy w o);
         answers = λ w s t. q s t .0;
         head = λ w s t. head-is (headOf (h .words) n true) _ _ (q s t .1) (q s t .2);
         represents = λ w s t.
@@ -84,6 +90,9 @@ idle-clear h st a e true l i s t = absurd (false≢true i)
 idle-clear h st a e false l i s t =
     let z : count s 0 (capacityOf h) ≡ 0 = sym (t .counted) ∙ eqb-true _ _ i in
     (count-none (lacking s false) a e (λ j p q. ap (λ (x : Bool). differ x false) (count-zero s 0 (capacityOf h) z j (omega arith) (omega arith))), refl)
+
+not-idle : (v : Bool) (n : ℕ) → (not v && eqb n 0) ≡ false → not v ≡ true → n ≡ 0 → ⊥
+not-idle v n i c z = true≢false (rw (c, eq-eqb n 0 z) at i)
 
 -- a call that is not idle leaves the flag set
 begun-after : (h : RangeBitset) (st : List ℕ) (v : Bool) → (not v && eqb (h .len) 0) ≡ false → (s : Positions) → Represents h st s → true ≡ (h .allocated || v)
@@ -121,13 +130,13 @@ module _ (h : RangeBitset) (st st₁ st₂ : List ℕ) (a e : ℕ) (v : Bool) (n
   begun-holds : (s : Positions) → Represents h st s → Stored (h .words) st₁ s
   begun-holds s t = b .holds s (t .begun) (t .fresh)
 
-  pub change-done : {f : Positions → Reply} {begins : Bool} (k m : ℕ) (r : Reply) → k ≡ 0 → refused r ≡ 0
+  pub change-done : {f : Positions → Reply} {begins : Bool} (k m : ℕ) (r : Reply) → k ≡ 0 → Accepted r
       → m ≡ cond v ((h .len + n) % 2 ^ 32) ((h .len + (2 ^ 32 - n)) % 2 ^ 32)
       → (not v && eqb (h .len) 0) ≡ false → begins ≡ v
       → ((s : Positions) → n ≡ changedCount s a e v → r ≡ f s)
-      → Changes k h st f (λ s. assigned s a e v) begins r (headOf (h .words) m true) st₂
+      → Changes k h st f (λ s. assigned s a e v) begins (not v) r (headOf (h .words) m true) st₂
   change-done k m r z q em i eb ans =
-      new-set k h st r m st₂ z q (w .kept ∙ b .kept)
+      new-set k h st r m st₂ z q (not-idle v (h .len) i) (w .kept ∙ b .kept)
       (λ s t.
       let c = w .changed s (begun-holds s t) in
       (ans s c, em ∙ len-after h st a e v n room l s t c, begun-after h st v i s t ∙ ap (λ (x : Bool). h .allocated || x) (sym eb), w .holds s (begun-holds s t)))
@@ -137,7 +146,7 @@ module _ (h : RangeBitset) (st st₁ st₂ : List ℕ) (a e : ℕ) (v : Bool) (n
 module _ (h : RangeBitset) (st : List ℕ) (a e : ℕ) (v : Bool) (z : rangeRefusal h (length st) e ≡ 0) where
   pub assign-empty : e ≤ a → AssignEnsures h st a e v (record { answer = counted.Count 0; head = h }) st
   assign-empty l =
-      same-set _ h st _ z refl
+      same-set _ h st _ z tt
       (λ s t. (ap Number (sym (changed-empty s a e v l)), assigned-empty s a e v l, sym (ap (λ (x : Bool). h .allocated || (v && x)) (le-ltb a e l) ∙ flag v (h .allocated))))
     where
       flag : (v x : Bool) → (x || (v && false)) ≡ x
@@ -146,7 +155,7 @@ module _ (h : RangeBitset) (st : List ℕ) (a e : ℕ) (v : Bool) (z : rangeRefu
 
   pub assign-idle : (not v && eqb (h .len) 0) ≡ true → AssignEnsures h st a e v (record { answer = counted.Count 0; head = h }) st
   assign-idle i =
-      same-set _ h st _ z refl
+      same-set _ h st _ z tt
       (λ s t.
       let q = idle-clear h st a e v (range-accepted h st e z .1) i s t in
       (ap Number (sym (q .0)), assigned-none s a e v (q .0), sym (ap (λ (x : Bool). h .allocated || (x && ltb a e)) (q .1) ∙ or-false (h .allocated))))
@@ -157,7 +166,7 @@ module _ (h : RangeBitset) (st : List ℕ) (a e : ℕ) (v : Bool) (z : rangeRefu
       → AssignEnsures h st a e v (record { answer = counted.Count n; head = record { words = h .words; len = m; allocated = true } }) st₂
   assign-done st₁ st₂ n m l i b w em =
       let q = range-accepted h st e z in
-      change-done h st st₁ st₂ a e v n (q .0) (q .1) b w _ m _ z refl em i
+      change-done h st st₁ st₂ a e v n (q .0) (q .1) b w _ m _ z tt em i
       (ap (λ (x : Bool). v && x) (lt-ltb a e l) ∙ and-true v) (λ s c. ap Number c)
     where
       and-true : (x : Bool) → (x && true) ≡ x
@@ -179,7 +188,7 @@ module _ (h : RangeBitset) (st : List ℕ) (i : ℕ) (v : Bool) (z : pointRefusa
   pub set-idle : (not v && eqb (h .len) 0) ≡ true → SetEnsures h st i v (record { answer = tested.Is false; head = h }) st
   set-idle e =
       let u = point-accepted h st i z .1 in
-      same-set _ h st _ z refl
+      same-set _ h st _ z tt
       (λ s t.
       let q = idle-clear h st i (suc i) v u e s t in
       (ap Number (sym (q .0)), assigned-none s i (suc i) v (q .0), sym (ap (λ (x : Bool). h .allocated || x) (q .1) ∙ or-false (h .allocated))))
@@ -206,7 +215,7 @@ module _ (h : RangeBitset) (st : List ℕ) (i : ℕ) (v : Bool) (z : pointRefusa
       subst (λ (x : ℕ). Assigns (h .words) x (suc i) v st₁ st₂ n) j
       (subst (λ (x : ℕ). Assigns (h .words) (64 * (i / 64) + i % 64) x v st₁ st₂ n) j′
       (as′ (i % 64) (i % 64 + 1) one-bit (omega arith) (omega arith))) in
-      change-done h st st₁ st₂ i (suc i) v n (q .0) (q .1) b a _ m _ z refl em e refl
+      change-done h st st₁ st₂ i (suc i) v n (q .0) (q .1) b a _ m _ z tt em e refl
       (λ s c. ap Number (whether n (omega (arith, c, changed-le s i (suc i) v)) ∙ c))
 
 -- ---- `clear`
@@ -216,9 +225,11 @@ module _ (h : RangeBitset) (st : List ℕ) (z : storageRefusal h (length st) ≡
   clear-fresh f =
       record {
         refuses = sym z;
+        accepts = λ w. tt;
         unchanged = λ w. (refl, refl);
         kept = refl;
         same-words = refl;
+        idle = λ w o. (refl, refl);
         answers = λ w s t. ap Number (t .counted);
         head = λ w s t. head-is h _ _ (empty s t) (sym (or-false (h .allocated)));
         represents = λ w s t.
@@ -233,9 +244,11 @@ module _ (h : RangeBitset) (st : List ℕ) (z : storageRefusal h (length st) ≡
   clear-begun st′ f b =
       record {
         refuses = sym z;
+        accepts = λ w. tt;
         unchanged = λ w. absurd (w z);
         kept = b .kept;
         same-words = refl;
+        idle = λ w o. absurd (false≢true w);
         answers = λ w s t. ap Number (t .counted);
         head = λ w s t. head-is (headOf (h .words) 0 (h .allocated)) _ _ empty (sym (or-false (h .allocated)));
         represents = λ w s t.

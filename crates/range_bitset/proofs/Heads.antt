@@ -1,4 +1,4 @@
--- What an accepted head says: the only facts of W that the inner functions use. Assumes nothing.
+-- What an accepted reply and an accepted head say: of W no more than this is used by the inner functions. Assumes nothing.
 use mathlib.Core.Path.{_≡_, refl}
 use mathlib.Core.Bool.{Bool, true, false, cond}
 use mathlib.Core.List.{List}
@@ -11,9 +11,14 @@ use borrow.Author.Tests.{leb-true, ltb-true, ltb-false, eqb-true, eqb-false}
 use Rattle.positions.proofs.Bools.{and-left, and-right}
 use Rattle.range_bitset.specs.Layout.{allowed, needed}
 use Rattle.range_bitset.specs.Represents.{capacityOf}
-use Rattle.range_bitset.specs.Answers.{goodHead, storageRefusal, rangeRefusal, pointRefusal, first-of}
+use Rattle.range_bitset.specs.Answers.{Reply, Number, Nothing, Refusal, refused, Accepted, goodHead, storageRefusal, rangeRefusal, pointRefusal, first-of}
 use Rattle.range_bitset.specs.Inner.{Room}
 use Rattle.range_bitset.specs.declared.RangeBitset.{RangeBitset}
+
+pub accepted-refused : (r : Reply) → Accepted r → refused r ≡ 0
+accepted-refused (Number n) y = refl
+accepted-refused Nothing y = refl
+accepted-refused (Refusal k) y = absurd y
 
 one-pos : (W : ℕ) → ones W ≡ 1 → 0 < W
 unfolding ones

@@ -43,6 +43,12 @@ refused (Number n) = 0
 refused Nothing = 0
 refused (Refusal k) = k
 
+-- no refusal, not even one with a number that 01 does not have
+abbrev pub Accepted : Reply → Type 0
+Accepted (Number n) = Unit {0}
+Accepted Nothing = Unit {0}
+Accepted (Refusal k) = ⊥
+
 -- ---- the refusals of 01's table, 0 where a call is accepted
 
 -- 1: the capacity is not 64 times an allowed word count

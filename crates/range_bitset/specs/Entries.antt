@@ -1,6 +1,6 @@
 -- The set's promises: one definition for each entry. `st` is the storage at entry, `st′` at exit. Assumes nothing.
 use mathlib.Core.Path.{_≡_}
-use mathlib.Core.Bool.{Bool, false, _&&_, _||_, cond}
+use mathlib.Core.Bool.{Bool, true, false, not, _&&_, _||_, cond}
 use mathlib.Core.List.{List}
 use Prim.Native.Nat.{ℕ, suc, _/_}
 use lib.Dec.{ltb}
@@ -8,7 +8,7 @@ use lib.ListN.{drop, length}
 use Rattle.positions.specs.Positions.{Positions, none, assigned, count, changedCount, first, one}
 use Rattle.range_bitset.specs.Layout.{needed}
 use Rattle.range_bitset.specs.Represents.{Represents, capacityOf}
-use Rattle.range_bitset.specs.Answers.{Reply, Number, Refusal, ofCounted, ofTested, ofPlace, ofFound, refused, allowedCapacity, goodHead, storageRefusal, rangeRefusal, pointRefusal}
+use Rattle.range_bitset.specs.Answers.{Reply, Number, Refusal, ofCounted, ofTested, ofPlace, ofFound, refused, Accepted, allowedCapacity, goodHead, storageRefusal, rangeRefusal, pointRefusal}
 use Rattle.range_bitset.specs.declared.RangeBitset.{RangeBitset}
 use Rattle.range_bitset.specs.declared.Made.{Made}
 use Rattle.range_bitset.specs.declared.Made.the-variants as made
@@ -24,17 +24,21 @@ use Rattle.range_bitset.specs.declared.Updated.{Updated}
 pub record Answers (k : ℕ) (h : RangeBitset) (st : List ℕ) (f : Positions → Reply) (r : Reply) : Type 0 where
   -- on any memory: refused exactly so
   pub refuses : refused r ≡ k
+  pub accepts : k ≡ 0 → Accepted r
   -- for every set that the memory represents: the one answer
   pub answers : k ≡ 0 → (s : Positions) → Represents h st s → r ≡ f s
 
--- `g s` is the set afterwards, `begins` whether the call is a first setting
-pub record Changes (k : ℕ) (h : RangeBitset) (st : List ℕ) (f : Positions → Reply) (g : Positions → Positions) (begins : Bool)
+-- `g s` is the set afterwards; `begins`: the call sets over at least one position; `clears`: it clears a range or a point
+pub record Changes (k : ℕ) (h : RangeBitset) (st : List ℕ) (f : Positions → Reply) (g : Positions → Positions) (begins clears : Bool)
     (r : Reply) (h′ : RangeBitset) (st′ : List ℕ) : Type 0 where
   -- on any memory: refused exactly so, and then nothing is changed; numbers past those needed and the word count never are
   pub refuses : refused r ≡ k
+  pub accepts : k ≡ 0 → Accepted r
   pub unchanged : (k ≡ 0 → ⊥) → (h′ ≡ h) × (st′ ≡ st)
   pub kept : drop (needed (h .words)) st′ ≡ drop (needed (h .words)) st
   pub same-words : h′ .words ≡ h .words
+  -- clearing at population 0 changes nothing, stale numbers and the flag included
+  pub idle : clears ≡ true → h .len ≡ 0 → (h′ ≡ h) × (st′ ≡ st)
   -- for every set that the memory represents: the one answer, the new head, and every number that is not stale
   pub answers : k ≡ 0 → (s : Positions) → Represents h st s → r ≡ f s
   pub head : k ≡ 0 → (s : Positions) → Represents h st s
@@ -69,17 +73,17 @@ NextEnsures v h st a e r = Answers (rangeRefusal h (length st) e) h st (λ s. of
 
 abbrev pub AssignEnsures : RangeBitset → List ℕ → ℕ → ℕ → Bool → Assigned → List ℕ → Type 0
 AssignEnsures h st a e v r st′ =
-    Changes (rangeRefusal h (length st) e) h st (λ s. Number (changedCount s a e v)) (λ s. assigned s a e v) (v && ltb a e)
+    Changes (rangeRefusal h (length st) e) h st (λ s. Number (changedCount s a e v)) (λ s. assigned s a e v) (v && ltb a e) (not v)
     (ofCounted (r .answer)) (r .head) st′
 
 -- one position: a range of length 1
 abbrev pub SetEnsures : RangeBitset → List ℕ → ℕ → Bool → Updated → List ℕ → Type 0
 SetEnsures h st i v r st′ =
-    Changes (pointRefusal h (length st) i) h st (λ s. Number (changedCount s i (suc i) v)) (λ s. assigned s i (suc i) v) v
+    Changes (pointRefusal h (length st) i) h st (λ s. Number (changedCount s i (suc i) v)) (λ s. assigned s i (suc i) v) v (not v)
     (ofTested (r .answer)) (r .head) st′
 
 -- every position: the flag is kept
 abbrev pub ClearEnsures : RangeBitset → List ℕ → Assigned → List ℕ → Type 0
 ClearEnsures h st r st′ =
-    Changes (storageRefusal h (length st)) h st (λ s. Number (count s 0 (capacityOf h))) (λ s. none) false
+    Changes (storageRefusal h (length st)) h st (λ s. Number (count s 0 (capacityOf h))) (λ s. none) false false
     (ofCounted (r .answer)) (r .head) st′

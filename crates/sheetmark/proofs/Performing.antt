@@ -11,7 +11,7 @@ use types.Run.{OneOf}
 use denote.Enum.Declared.{tagOf}
 use Rattle.positions.specs.Positions.{Positions, Found, At, first, count}
 use Rattle.positions.proofs.Searches.{Searched, hit, miss, first-means}
-use Rattle.range_bitset.specs.Answers.{Reply, Number, ofCounted, ofPlace, ofFound, refused, rangeRefusal}
+use Rattle.range_bitset.specs.Answers.{Reply, Number, ofCounted, ofPlace, ofFound, refused, Accepted, rangeRefusal}
 use Rattle.range_bitset.specs.Entries.{Answers, CountEnsures, NextEnsures}
 use Rattle.range_bitset.specs.declared.RangeBitset.{RangeBitset}
 use Rattle.range_bitset.specs.declared.Found.{Found as Place}
@@ -98,12 +98,18 @@ cut-same s v a e n (place.At i) f (miss m) x = absurd (let z : _≡_ {A = ℕ} 0
 cut-same s v a e n place.Nothing f m x = x
 cut-same s v a e n (place.Refused k) f m x = x
 
+accepts-same : (p : Place) → Accepted (ofPlace p) → Accepted (foundReply p)
+accepts-same (place.At i) y = tt
+accepts-same place.Nothing y = tt
+accepts-same (place.Refused k) y = y
+
 -- the search's promise holds of the answer in 32 bits
 pub found-answers : (h : RangeBitset) (st : List ℕ) (a e : ℕ) (v : Bool) (p : Place) (r : Reply) → NextEnsures v h st a e p → r ≡ foundReply p
     → Answers (rangeRefusal h (length st) e) h st (λ s. ofFound (first s v a e)) r
 found-answers h st a e v p r q x =
     record {
       refuses = ap refused x ∙ refuses-same p ∙ q .refuses;
+      accepts = λ z. rw x (accepts-same p (q .accepts z));
       answers = λ z s y.
           let room = range-accepted h st e z in
           x ∙ cut-same s v a e (omega (arith, room .1, room .0 .most)) p (first s v a e) (first-means s v a e) (q .answers z s y);

@@ -69,8 +69,9 @@ same-length c = search needs
 returns-4 : tie.Need-returns-4
 returns-4 c =
     let n = c .before .before in
-    let b = n .before .before .before .before .before .before in
-    too-many _ _ _ _ _ _ _ _ (c .declined4 .result .answer) (c .declined4 .result .head) (c .declined4 .ensures .0) (c .declined4 .ensures .1) (sym (b .before .refusal .ensures) ∙ b .if1 .left) (omega arith) (omega arith) (n .runs-fit .ensures) (not-true _ (c .before .if4 .taken))
+    let f = n .before .before in
+    let b = f .before .before .before .before in
+    too-many _ _ _ _ _ _ _ _ (c .declined4 .result .answer) (c .declined4 .result .head) (c .declined4 .ensures .0) (c .declined4 .ensures .1) (sym (b .before .refusal .ensures) ∙ b .if1 .left) (omega arith) (f .if3 .left) (omega arith) (n .runs-fit .ensures) (not-true _ (c .before .if4 .taken))
 
 write-call-requires : tie.Need-write-call-requires
 write-call-requires c κs =

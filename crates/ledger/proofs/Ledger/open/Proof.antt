@@ -61,7 +61,7 @@ cast-lent-enough c = search needs
 
 lent-enough-requires : tie.Need-lent-enough-requires
 lent-enough-requires c κs =
-    open-words (c .before .before .before .before .before .before .before .before .before .before .before .before .before .before .before .args .file .now) (c .before .before .before .before .before .before .before .before .before .before .before .before .before .before .before .args .journal) (c .before .before .before .before .before .before .before .before .before .before .before .before .before .before .before .args .storage .now) (c .before .before .before .before .before .before .before .before .before .before .before .before .before .before .before .args .lent .now) _ (c .before .before .before .before .before .before .before .before .before .before .before .read-header .ensures) _ _ (c .before .before .before .before .before .before .before .before .before .words .given .1) _ (c .before .before .before .before .before .before .before .new .ensures) _ (c .before .before .before .before .before .set .given .1)
+    open-words (c .before .before .before .before .before .before .before .before .before .before .before .before .before .before .before .args .file .now) (c .before .before .before .before .before .before .before .before .before .before .before .before .before .before .before .args .limit) (c .before .before .before .before .before .before .before .before .before .before .before .before .before .before .before .args .storage .now) (c .before .before .before .before .before .before .before .before .before .before .before .before .before .before .before .args .journal .now) _ (c .before .before .before .before .before .before .before .before .before .before .before .read-header .ensures) _ _ (c .before .before .before .before .before .before .before .before .before .words .given .1) _ (c .before .before .before .before .before .before .before .new .ensures) _ (c .before .before .before .before .before .set .given .1)
 
 returns-5 : tie.Need-returns-5
 returns-5 c =

@@ -1,7 +1,8 @@
 -- `ledger::Ledger::take_back` meets its contract. Assumes nothing.
 use mathlib.Core.Path.{sym, _∙_}
 use native.Mathlib.Omega.{arith}
-use Rattle.ledger.proofs.Refusals.{lent-accepted}
+use Rattle.ledger.specs.Machine.{Back}
+use Rattle.ledger.proofs.Refusals.{declined-as, lent-accepted}
 use Rattle.ledger.proofs.Backing.{last-read, last-absent, back-refused, back-none, back-room, taken-back}
 use borrow.Author.Needs.{needs}
 use Rattle.ledger.proofs.Ledger.take_back.Statement.{statement}
@@ -10,8 +11,13 @@ use Rattle.ledger.proofs.Ledger.take_back.Tie as tie
 refusal-requires : tie.Need-refusal-requires
 refusal-requires c κs = search needs
 
+declined-requires : tie.Need-declined-requires
+declined-requires c κs = search needs
+
 returns : tie.Need-returns
-returns c = back-refused _ _ _ _ (c .before .refusal .ensures) (c .if1 .taken)
+returns c =
+    declined-as Back _ _ _ _ (c .declined .result .answer) (c .declined .result .head) (c .declined .ensures .0) (c .declined .ensures .1)
+    (back-refused _ _ _ _ (c .before .before .refusal .ensures) (c .before .if1 .taken))
 
 last-call-requires : tie.Need-last-call-requires
 last-call-requires c κs =
@@ -24,9 +30,13 @@ enum-known-runs c = search needs
 enum-told : tie.Need-enum-told
 enum-told c = search needs
 
+declined-requires-2 : tie.Need-declined-requires-2
+declined-requires-2 c κs = search needs
+
 returns-2 : tie.Need-returns-2
 returns-2 c =
-    back-none _ _ _ (sym (c .before .before .before .before .refusal .ensures) ∙ c .before .before .before .if1 .left) (last-absent _ _ _ (c .before .before .last-call .ensures) (c .enum-told .given .1))
+    declined-as Back _ _ _ _ (c .declined2 .result .answer) (c .declined2 .result .head) (c .declined2 .ensures .0) (c .declined2 .ensures .1)
+    (back-none _ _ _ (sym (c .before .before .before .before .before .refusal .ensures) ∙ c .before .before .before .before .if1 .left) (last-absent _ _ _ (c .before .before .before .last-call .ensures) (c .before .enum-told .given .1)))
 
 mul-first : tie.Need-mul-first
 mul-first c =
@@ -59,10 +69,12 @@ take-back-spec =
     tie.close
     (tie.spec
     refusal-requires
+    declined-requires
     returns
     last-call-requires
     enum-known-runs
     enum-told
+    declined-requires-2
     returns-2
     mul-first
     add-first

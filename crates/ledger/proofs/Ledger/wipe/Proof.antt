@@ -1,5 +1,7 @@
 -- `ledger::Ledger::wipe` meets its contract. Assumes nothing.
 use mathlib.Core.Path.{sym, _∙_}
+use Rattle.ledger.specs.Machine.{Wipe}
+use Rattle.ledger.proofs.Refusals.{declined-as}
 use Rattle.ledger.proofs.Backing.{wipe-refused, wiped}
 use borrow.Author.Needs.{needs}
 use Rattle.ledger.proofs.Ledger.wipe.Statement.{statement}
@@ -8,8 +10,13 @@ use Rattle.ledger.proofs.Ledger.wipe.Tie as tie
 wipe-refusal-requires : tie.Need-wipe-refusal-requires
 wipe-refusal-requires c κs = search needs
 
+declined-requires : tie.Need-declined-requires
+declined-requires c κs = search needs
+
 returns : tie.Need-returns
-returns c = λ j. wipe-refused _ _ j _ (c .before .wipe-refusal .ensures) (c .if1 .taken)
+returns c =
+    λ j. declined-as Wipe _ _ j _ (c .declined .result .answer) (c .declined .result .head) (c .declined .ensures .0) (c .declined .ensures .1)
+    (wipe-refused _ _ j _ (c .before .before .wipe-refusal .ensures) (c .before .if1 .taken))
 
 clear-requires : tie.Need-clear-requires
 clear-requires c κs = search needs
@@ -21,4 +28,4 @@ returns-2 : tie.Need-returns-2
 returns-2 c = λ j. wiped _ _ j (c .before .before .before .clear .result) _ (sym (c .before .before .before .before .before .before .before .wipe-refusal .ensures) ∙ c .before .before .before .before .before .before .if1 .left) (c .before .before .before .clear .ensures) (c .before .before .before .clear .kept .1 .0)
 
 pub wipe-spec : {M : Type 1} → statement M
-wipe-spec = tie.close (tie.spec wipe-refusal-requires returns clear-requires same-length returns-2)
+wipe-spec = tie.close (tie.spec wipe-refusal-requires declined-requires returns clear-requires same-length returns-2)
