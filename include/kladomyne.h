@@ -1,9 +1,9 @@
 /* Kladomyne's ledger library, for C and C++: the set of sheets, and the ledger, which is a set with an undo journal.
  *
  * Link target/staticlib/libcapi.a for the calls klado_set_ and target/staticlib/libcapi_ledger.a for the calls klado_ledger_,
- * which `rt staticlib capi` and `rt staticlib capi_ledger` make, on x86-64; neither needs a symbol from outside. examples/desk.c is a
- * short caller. The library allocates nothing, keeps nothing between calls, and reads and writes only what the caller lends for
- * the length of a call. Every symbol and type has the prefix `klado_`.
+ * which `rt staticlib capi` and `rt staticlib capi_ledger` make, on x86-64; neither needs a symbol from outside. examples/desk.c
+ * is a short caller. The library allocates nothing, keeps nothing between calls, and reads and writes only what the caller lends
+ * for the length of a call. Every symbol and type has the prefix `klado_`.
  *
  * A set is a head, which goes in and comes back by value, and storage, which the caller owns and lends to each call.
  * It holds positions 0 up to its capacity, the capacity itself left out. A range start..end holds start and leaves
