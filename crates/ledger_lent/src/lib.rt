@@ -73,7 +73,7 @@ pub fn mark_through(
     end: usize,
     value: bool,
 ) -> Called
-    ensures { λ r. ⌜ CallEnsures (Range start end value) (memory head (now (storage .entry)) (now (journal .entry))) (ofCounted (r .answer)) (memory (r .head) (now (storage .exit)) (now (journal .exit))) ⌝ }
+    ensures { λ out. ⌜ CallEnsures (Range start end value) (memory head (now (storage .entry)) (now (journal .entry))) (ofCounted (out .answer)) (memory (out .head) (now (storage .exit)) (now (journal .exit))) ⌝ }
 {
     let mut lent = head;
     let answer = mark_lent(&mut lent, storage, journal, start, end, value);
@@ -82,7 +82,7 @@ pub fn mark_through(
 
 // The lent form of take-back behind a by-value one.
 pub fn take_back_through(head: Ledger, storage: &mut [u64], journal: &[u32]) -> Called
-    ensures { λ r. ⌜ CallEnsures Back (memory head (now (storage .entry)) (now (journal .entry))) (ofCounted (r .answer)) (memory (r .head) (now (storage .exit)) (now (journal .entry))) ⌝ }
+    ensures { λ out. ⌜ CallEnsures Back (memory head (now (storage .entry)) (now (journal .entry))) (ofCounted (out .answer)) (memory (out .head) (now (storage .exit)) (now (journal .entry))) ⌝ }
 {
     let mut lent = head;
     let answer = take_back_lent(&mut lent, storage, journal);
@@ -91,7 +91,7 @@ pub fn take_back_through(head: Ledger, storage: &mut [u64], journal: &[u32]) -> 
 
 // The lent form of wipe behind a by-value one.
 pub fn wipe_through(head: Ledger, storage: &mut [u64]) -> Called
-    ensures { λ r. ⌜ ((j : List ℕ) → CallEnsures Wipe (memory head (now (storage .entry)) j) (ofCounted (r .answer)) (memory (r .head) (now (storage .exit)) j)) ⌝ }
+    ensures { λ out. ⌜ ((j : List ℕ) → CallEnsures Wipe (memory head (now (storage .entry)) j) (ofCounted (out .answer)) (memory (out .head) (now (storage .exit)) j)) ⌝ }
 {
     let mut lent = head;
     let answer = wipe_lent(&mut lent, storage);

@@ -1,5 +1,6 @@
-// Reads the runs of a small saved list through the reader that holds the bytes and a run index, and prints each run, then
-// what stands past the last one and far past it. `stdout` has the answers that 01's format gives.
+// Reads the runs of a small saved list through the reader that holds the bytes and a run index, lent to each step, and prints
+// each run, then what stands past the last one, the index there, and what stands far past it. `stdout` has the answers that
+// 01's format gives.
 use libc::STDOUT_FILENO;
 use saved_list::FoundRun;
 
@@ -19,11 +20,12 @@ fn say_run(found: FoundRun) {
     }
 }
 
-// The run at an index, and the index after it.
+// Prints the run at an index, and answers the index after it: both as the lent reader left them.
 fn say_step(file: &[u8], at: usize) -> usize {
-    say_run(saved_list::run_through(file, at));
-    let next = saved_list::step_at(file, at);
-    next.at
+    let stepped = saved_list::step_through(file, at);
+    let run = stepped.run;
+    say_run(run);
+    stepped.at
 }
 
 fn main() {
@@ -36,5 +38,5 @@ fn main() {
     let at = say_step(&file, at);
     io::print_decimal(STDOUT_FILENO, at as u64);
     say(b"\n");
-    say_run(saved_list::run_through(&file, usize::MAX));
+    say_step(&file, usize::MAX);
 }

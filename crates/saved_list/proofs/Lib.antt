@@ -5,4 +5,5 @@ pub mod Lists
 pub mod Answers
 pub mod Opening
 pub mod Steps
+pub mod Readers
 mod Examples

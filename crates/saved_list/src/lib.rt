@@ -216,16 +216,11 @@ pub fn step<'s, 'a>(r: &'s mut Runs<'a>) -> FoundRun
     out.run
 }
 
-// The run that a reader stands at; the reader is passed by value.
-pub fn next<'a>(r: Runs<'a>) -> FoundRun
-    ensures { λ s. ⌜ foundAnswer s ≡ foundOf (now (r .entry .file)) (r .entry .at) ⌝ }
+// A reader made in a local and lent to one step, behind plain parameters, so that covered code can run it.
+pub fn step_through(file: &[u8], index: usize) -> Stepped
+    ensures { λ r. ⌜ (foundAnswer (r .run) ≡ foundOf (now (file .entry)) index) × (r .at ≡ indexAfter (now (file .entry)) index) ⌝ }
 {
-    run_at(r.file, r.at)
-}
-
-// A reader made in a local and read, behind plain parameters, so that covered code can run it.
-pub fn run_through(file: &[u8], at: usize) -> FoundRun
-    ensures { λ r. ⌜ foundAnswer r ≡ foundOf (now (file .entry)) at ⌝ }
-{
-    next(Runs { file, at })
+    let mut reader = Runs { file, at: index };
+    let run = step(&mut reader);
+    Stepped { run, at: reader.at }
 }

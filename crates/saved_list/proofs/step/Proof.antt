@@ -29,7 +29,7 @@ use denote.Memory.{mem, cellAt}
 use denote.Plain.{uint-makes}
 use denote.Builtin.{u8, usize}
 use denote.Ref.{RefT, NamedLft, MutRef, now, ptr-vals, mut-tells}
-use denote.Slice.{sliceVal, ShrSlice, Room}
+use denote.Slice.{sliceVal, ShrSlice}
 use denote.Signature.{Slot, plain, namedLft}
 use denote.Steps.{only, opens, closes, owned, peeks, heard, nothing}
 use denote.Struct.Declared.{Declared}
@@ -46,7 +46,6 @@ use denote.Triple.Table.{entered, cited}
 use denote.Triple.Walked.{says, Stays, stay-ref, walkOf, goes-ref, Walks, ends-at, walked, walk-meets}
 use denote.Triple.Clauses.{ensured, lasts}
 use Rattle.saved_list.specs.Answers.{foundAnswer, foundOf, indexAfter}
-use Rattle.saved_list.specs.declared.FoundRun.{FoundRun}
 use Rattle.saved_list.specs.declared.Runs.{Runs}
 use Rattle.saved_list.specs.declared.Stepped.{Stepped}
 use Rattle.saved_list.proofs.Runs as T
@@ -55,6 +54,7 @@ use Rattle.saved_list.proofs.FoundRun as S
 use Rattle.saved_list.proofs.FoundRun.Laws as S′
 use Rattle.saved_list.proofs.Stepped as O
 use Rattle.saved_list.proofs.Stepped.Laws as O′
+use Rattle.saved_list.proofs.Readers.{IsRun, run-of, index-fits, at-fits, room}
 use Rattle.saved_list.proofs.step_at as step
 use Rattle.saved_list.proofs.step_at.Symbol as step-def
 use Rattle.saved_list.proofs.step_at.Symbol.{name as #saved·step-at}
@@ -77,16 +77,6 @@ behind = plain (λ κs. T.the-row (namedLft 2 1 tt κs))
 
 abbrev stayed : Stays (f.ended .signature .params) (f.ended .kept)
 stayed = (stay-ref (0 ∷ []) tt behind, tt)
-
--- what is known of a step's parts
-abbrev IsRun : FoundRun → Type 0
-IsRun r = Is S.the-row r (EL.vals S.the-type S′.the-laws r)
-
-run-of : (r : Stepped) (vs : List Val) → Is O.the-row r vs → IsRun (r .run)
-run-of r vs is = LL.owed O.the-type O′.the-laws r vs is .0
-
-index-fits : (r : Stepped) (vs : List Val) → Is O.the-row r vs → r .at < 2 ^ 64
-index-fits r vs is = LL.owed O.the-type O′.the-laws r vs is .1 .0 .1
 
 -- the contract that the proof cites
 abbrev StepAt : {M : Type 1} (𝓤 : URA M) (H : Heap 𝓤) (A : Atoms 𝓤) (mem : Memory → SProp 𝓤) (run : Routine → Fun 𝓤) → Contract 𝓤
@@ -155,13 +145,6 @@ module _ {M : Type 1} (𝓤 : URA M) (H : Heap 𝓤) (A : Atoms 𝓤) (W : Given
       move ! (2 ∷ 3 ∷ []) $ join ! $ frame ! $ feqI ! (List Val) (vptr b o ∷ []) (vptr b o ∷ []) refl $ fjoin3 ! $ nothing ! $ move ! (1 ∷ 0 ∷ []) $ fjoin ! $
       owned ! S.the-row (Is S.the-row) (EL.makes S.the-type S′.the-plain 𝓤 H A) (r .run) _ is $ move ! (1 ∷ 0 ∷ []) $ done !
 
-  -- what whoever holds the struct knows of its fields
-  at-fits : Is (B κ′) h (T′.lowered h ∷ []) → h .at < 2 ^ 64
-  at-fits g = LL.owed D L h _ g .1 .0 .1
-
-  room : Is (B κ′) h (T′.lowered h ∷ []) → Room u8 (length (h .file .now))
-  room g = LL.owed D L h _ g .0 .0 .1
-
   module _ (C : Calls 𝓤 H) (Λ : Loops 𝓤 H) (fm : FmC 𝓤 H (W .laws) C) (known : Triple 𝓤 (C #saved·step-at) (StepAt 𝓤 H A at-mem run)) where
     walk : ent 𝓤 (onEntry 𝓤 H A f.signature (κ, (κ′, tt)) (q, (q′, tt)) x at) (WpFn 𝓤 H C Λ code.function (vptr b o ∷ []) Post)
     walk =
@@ -172,9 +155,9 @@ module _ {M : Type 1} (𝓤 : URA M) (H : Heap 𝓤) (A : Atoms 𝓤) (W : Given
         use1 W (‵ (fat fullShare (T′.mir erased) b o (T′.lowered h))) (W .laws .raw-at fullShare (T′.mir erased) b o (T′.lowered h)) $
         move ! (1 ∷ []) $ peeks ! (B κ′) (Is (B κ′)) (shows 𝓤 H A (B κ′)) h (T′.lowered h ∷ []) (λ was. move ! (1 ∷ 0 ∷ []) $
         -- [the struct's cell; what a Runs owns; the open borrow; obs; auth; 'a's token; true; _4; …; _3; …; _2; …; _1; …; room for _0; …]
-        assigns ! (of-opd ! (load ! (from ! (hop ! (look ! 13 refl) (fld ! refl (stop !)))) (look-in ! 0 (sub ! 0 refl (whole !))))) (from ! (stop !)) (init ! 9 refl (tt, (tt, (record { fits = room was .0 }, tt)))) $
-        assigns ! (of-opd ! (load ! (from ! (hop ! (look ! 13 refl) (fld ! refl (stop !)))) (look-in ! 0 (sub ! 1 refl (whole !))))) (from ! (stop !)) (init ! 7 refl (tt, record { fits = at-fits was })) $
-        move ! (1 ∷ 5 ∷ []) $ use2 W (raw (StepAt 𝓤 H A at-mem run .pre to) ⊛ ‵ (Own h)) (apart (at-fits was)) $ split ! $
+        assigns ! (of-opd ! (load ! (from ! (hop ! (look ! 13 refl) (fld ! refl (stop !)))) (look-in ! 0 (sub ! 0 refl (whole !))))) (from ! (stop !)) (init ! 9 refl (tt, (tt, (record { fits = room (α κ′) h was .0 }, tt)))) $
+        assigns ! (of-opd ! (load ! (from ! (hop ! (look ! 13 refl) (fld ! refl (stop !)))) (look-in ! 0 (sub ! 1 refl (whole !))))) (from ! (stop !)) (init ! 7 refl (tt, record { fits = at-fits (α κ′) h was })) $
+        move ! (1 ∷ 5 ∷ []) $ use2 W (raw (StepAt 𝓤 H A at-mem run .pre to) ⊛ ‵ (Own h)) (apart (at-fits (α κ′) h was)) $ split ! $
         calls-at ! fm (StepAt 𝓤 H A at-mem run) known to (and-then ! (load ! (from ! (stop !)) (look ! 9 refl)) (and-then ! (load ! (from ! (stop !)) (look ! 7 refl)) (no-more !))) (λ u.
         use1 W (later (some (λ (r : Stepped). ((‵ (flft κ′ q′) ⊛ ‵ ftrue) ⊛ ‵ (O.the-row .own r (u ∷ []))) ⊛ raw (ensured 𝓤 H A step.ended (step.clauses 𝓤 H A at-mem run) (κ′, tt) (h .file, (h .at, tt)) tt r)))) (id⊢ 𝓤 _) $ await ! tt $ pick ! (λ r.
         split ! $ move ! (1 ∷ []) $ use1 W (raw (fact 𝓤 (Said r))) (said r) $ heard ! (Said r) (λ e. split ! $ move ! (1 ∷ []) $
