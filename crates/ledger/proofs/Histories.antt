@@ -15,8 +15,8 @@ use Rattle.range_bitset.specs.Represents.{Represents}
 use Rattle.range_bitset.specs.Answers.{Reply, allowedCapacity, goodHead, storageRefusal, rangeRefusal, pointRefusal}
 use Rattle.range_bitset.specs.Entries.{Answers}
 use Rattle.ledger.specs.Machine.{Machine, fresh, Call, Outcome, step, after, setOf, population, used}
-use Rattle.ledger.specs.Memory.{Memory, memory, goodLedger, longStorage, lentRefusal, Holds}
-use Rattle.ledger.specs.Entries.{ofAnswer, newHead, lentEnough, newOf, refusalOf}
+use Rattle.ledger.specs.Memory.{Memory, memory, goodLedger, lentEnough, lentRefusal, Holds}
+use Rattle.ledger.specs.Entries.{ofAnswer, newHead, newOf, refusalOf}
 use Rattle.ledger.specs.History.{Begun, by-new, by-open, Chain, none as no-call, call, Agrees, History}
 use Rattle.ledger.specs.declared.Ledger.{Ledger}
 use Rattle.ledger.specs.declared.Opened.{Opened}
@@ -38,7 +38,7 @@ headOr h (opened.BadRun i) = h
 module _ (capacity j : ℕ) (st journal : List ℕ) where
   holds-fresh : (allowedCapacity capacity && leb j 16384) ≡ true → lentEnough (capacity / 64) j (length st) (length journal) ≡ true
       → Holds (memory (newHead (capacity / 64) j false) st journal) (fresh capacity j)
-  unfolding allowedCapacity lentEnough goodHead goodLedger longStorage lentRefusal used setOf
+  unfolding allowedCapacity goodHead goodLedger lentRefusal used setOf
   holds-fresh p q =
       let good : allowedCapacity capacity ≡ true = and-left (allowedCapacity capacity) (leb j 16384) p in
       record {

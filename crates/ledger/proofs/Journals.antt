@@ -52,7 +52,7 @@ entry-end l rs v i r h = rw (getD-append-add l (entry rs v) (2 * i + 1) 0) (pair
 read-pairs : (l : List ℕ) (rs : List Run) (t : List ℕ) (at : ℕ) → at ≡ length l → readRuns (l ++ (pairs rs ++ t)) at (length rs) ≡ rs
 read-pairs l [] t at e = refl
 read-pairs l (r ∷ rs) t at e =
-    λ i. record { start = first-of i; end = second-of i } ∷ rest-of (read-pairs (l ++ two) rs t (at + 2) (omega (arith, length-append l two))) i
+    λ i. record { start = firstOf i; end = second-of i } ∷ rest-of (read-pairs (l ++ two) rs t (at + 2) (omega (arith, length-append l two))) i
   where
     two : List ℕ
     two = r .start ∷ r .end ∷ []
@@ -60,8 +60,8 @@ read-pairs l (r ∷ rs) t at e =
     xs : List ℕ
     xs = r .start ∷ r .end ∷ (pairs rs ++ t)
 
-    first-of : getD (l ++ xs) at 0 ≡ r .start
-    first-of = let p : at ≡ length l + 0 = omega arith in rw (p, getD-append-add l xs 0 0)
+    firstOf : getD (l ++ xs) at 0 ≡ r .start
+    firstOf = let p : at ≡ length l + 0 = omega arith in rw (p, getD-append-add l xs 0 0)
 
     second-of : getD (l ++ xs) (at + 1) 0 ≡ r .end
     second-of = let p : at + 1 ≡ length l + 1 = omega arith in rw (p, getD-append-add l xs 1 0)

@@ -9,4 +9,3 @@ pub mod Backing
 pub mod Opening
 pub mod Histories
 pub mod Flags
-pub mod Replays

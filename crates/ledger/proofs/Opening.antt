@@ -20,13 +20,13 @@ use Rattle.range_bitset.specs.declared.RangeBitset.{RangeBitset}
 use Rattle.range_bitset.specs.declared.Made.{Made}
 use Rattle.range_bitset.specs.declared.Made.the-variants as made
 use Rattle.range_bitset.proofs.Heads.{allowed-bounds}
-use Rattle.ledger.specs.Entries.{lentEnough, newOf, refusalOf, openRefusal, OpenEnsures}
+use Rattle.ledger.specs.Entries.{newOf, refusalOf, openRefusal, OpenEnsures}
 use Rattle.ledger.specs.Machine.{openedWith, setOf, used}
-use Rattle.ledger.specs.Memory.{memory, Holds}
+use Rattle.ledger.specs.Memory.{lentEnough, memory, Holds}
 use Rattle.ledger.specs.Inner.{Within, Reassigns, fileRuns, OpensRuns}
 use Rattle.ledger.specs.declared.Opened.{Opened}
 use Rattle.ledger.proofs.Machines.{kept-opened}
-use Rattle.ledger.proofs.Refusals.{accepted-lent, good-again, represented-good, accepted-storage}
+use Rattle.ledger.proofs.Refusals.{lent-both, accepted-lent, good-again, represented-good, accepted-storage}
 use Rattle.ledger.proofs.Reassigning.{ascending-within, ascending-any}
 use Rattle.saved_list.specs.Format.{savedWords, savedCount, savedCapacity, savedRuns, savedPositions, Headed, Whole, headed, whole, firstBadRun}
 use Rattle.saved_list.specs.Answers.{refuses, headerAnswer, headerOf, lengthAnswer, lengthOf, runsAnswer, runsOf}
@@ -175,10 +175,6 @@ fresh-good W a =
     let p : 64 * W / 64 ≡ W = omega arith in
     let q : allowed W ≡ true = rw p at (and-right (eqb (64 * W % 64) 0) (allowed (64 * W / 64)) a) in
     rw (q, le-leb 0 (64 * W) (omega arith))
-
-lent-both : (W j n k : ℕ) → lentEnough W j n k ≡ true → (needed W ≤ n) × (j ≤ k)
-unfolding lentEnough
-lent-both W j n k e = (leb-true _ _ (and-left (leb (needed W) n) (leb j k) e), leb-true _ _ (and-right (leb (needed W) n) (leb j k) e))
 
 -- the head that the set's `new` gives for the file's capacity
 pub file-head : (capacity : ℕ) (W : ℕ) (h : RangeBitset) → capacity ≡ 64 * W → h ≡ freshHead (capacity / 64) → h ≡ freshHead W

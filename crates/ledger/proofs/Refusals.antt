@@ -18,8 +18,8 @@ use Rattle.range_bitset.specs.declared.Counted.the-variants as counted
 use Rattle.range_bitset.specs.declared.RangeBitset.{RangeBitset}
 use Rattle.range_bitset.proofs.Heads.{good-bounds}
 use Rattle.ledger.specs.Machine.{Call}
-use Rattle.ledger.specs.Memory.{memory, goodLedger, longStorage, lentRefusal, wipeRefusal}
-use Rattle.ledger.specs.Entries.{Called, lentEnough}
+use Rattle.ledger.specs.Memory.{memory, goodLedger, lentEnough, lentRefusal, wipeRefusal}
+use Rattle.ledger.specs.Entries.{Called}
 use Rattle.ledger.specs.declared.Ledger.{Ledger}
 
 -- ---- the answer and the head as `declined` gives them
@@ -98,7 +98,7 @@ module _ (h : Ledger) where
     lent-bad g = rw g
 
     pub lent-good : (b : Bool) → goodLedger h ≡ true → b ≡ lentEnough (h .set .words) (h .journal) n k → cond b 0 3 ≡ lentRefusal h n k
-    unfolding lentRefusal lentEnough longStorage
+    unfolding lentRefusal
     lent-good b g e = rw (g, ← e)
 
   module _ (n : ℕ) where
@@ -107,12 +107,8 @@ module _ (h : Ledger) where
     wipe-bad g = rw g
 
     pub wipe-good : (b : Bool) → goodLedger h ≡ true → b ≡ lentEnough (h .set .words) 0 n 0 → cond b 0 3 ≡ wipeRefusal h n
-    unfolding wipeRefusal lentEnough longStorage
-    wipe-good b g e = let q : b ≡ leb (needed (h .set .words)) n = e ∙ and-true (leb (needed (h .set .words)) n) in rw (g, ← q)
-      where
-        and-true : (x : Bool) → (x && leb 0 0) ≡ x
-        and-true true = refl
-        and-true false = refl
+    unfolding wipeRefusal
+    wipe-good b g e = rw (g, ← e)
 
 -- ---- what an accepted head and lent slices say
 
@@ -127,36 +123,39 @@ pub record WipeEnough (h : Ledger) (n : ℕ) : Type 0 where
   pub good : goodLedger h ≡ true
   pub long : needed (h .set .words) ≤ n
 
+pub lent-both : (W j n k : ℕ) → lentEnough W j n k ≡ true → (needed W ≤ n) × (j ≤ k)
+unfolding lentEnough
+lent-both W j n k e = (leb-true _ _ (and-left (leb (needed W) n) (leb j k) e), leb-true _ _ (and-right (leb (needed W) n) (leb j k) e))
+
+enough : (W j n k : ℕ) → needed W ≤ n → j ≤ k → lentEnough W j n k ≡ true
+unfolding lentEnough
+enough W j n k p q = rw (le-leb _ _ p, le-leb _ _ q)
+
 pub lent-accepted : (h : Ledger) (n k : ℕ) → lentRefusal h n k ≡ 0 → LentEnough h n k
-unfolding lentRefusal longStorage
-lent-accepted h n k e = by (goodLedger h) refl (longStorage h n && leb (h .journal) k) refl e
+unfolding lentRefusal
+lent-accepted h n k e = by (goodLedger h) refl (lentEnough (h .set .words) (h .journal) n k) refl e
   where
-    by : (g : Bool) → goodLedger h ≡ g → (l : Bool) → (longStorage h n && leb (h .journal) k) ≡ l → _≡_ {A = ℕ} (cond g (cond l 0 3) 2) 0
+    by : (g : Bool) → goodLedger h ≡ g → (l : Bool) → lentEnough (h .set .words) (h .journal) n k ≡ l → _≡_ {A = ℕ} (cond g (cond l 0 3) 2) 0
         → LentEnough h n k
     by false p l q z = absurd (omega arith)
     by true p false q z = absurd (omega arith)
     by true p true q z =
         let b = ledger-bounds h p in
-        record {
-          good = p;
-          journal-most = b .0;
-          used-most = b .1;
-          long = leb-true _ _ (and-left (longStorage h n) (leb (h .journal) k) q);
-          journal-long = leb-true _ _ (and-right (longStorage h n) (leb (h .journal) k) q);
-        }
+        let l = lent-both (h .set .words) (h .journal) n k q in
+        record { good = p; journal-most = b .0; used-most = b .1; long = l .0; journal-long = l .1 }
 
 pub accepted-lent : (h : Ledger) (n k : ℕ) → LentEnough h n k → lentRefusal h n k ≡ 0
-unfolding lentRefusal longStorage
-accepted-lent h n k a = rw (a .good, le-leb _ _ (a .long), le-leb _ _ (a .journal-long))
+unfolding lentRefusal
+accepted-lent h n k a = rw (a .good, enough _ _ _ _ (a .long) (a .journal-long))
 
 pub wipe-accepted : (h : Ledger) (n : ℕ) → wipeRefusal h n ≡ 0 → WipeEnough h n
-unfolding wipeRefusal longStorage
-wipe-accepted h n e = by (goodLedger h) refl (longStorage h n) refl e
+unfolding wipeRefusal
+wipe-accepted h n e = by (goodLedger h) refl (lentEnough (h .set .words) 0 n 0) refl e
   where
-    by : (g : Bool) → goodLedger h ≡ g → (l : Bool) → longStorage h n ≡ l → _≡_ {A = ℕ} (cond g (cond l 0 3) 2) 0 → WipeEnough h n
+    by : (g : Bool) → goodLedger h ≡ g → (l : Bool) → lentEnough (h .set .words) 0 n 0 ≡ l → _≡_ {A = ℕ} (cond g (cond l 0 3) 2) 0 → WipeEnough h n
     by false p l q z = absurd (omega arith)
     by true p false q z = absurd (omega arith)
-    by true p true q z = record { good = p; long = leb-true _ _ q }
+    by true p true q z = record { good = p; long = lent-both (h .set .words) 0 n 0 q .0 }
 
 pub accepted-storage : (h : RangeBitset) (n : ℕ) → goodHead h ≡ true → needed (h .words) ≤ n → storageRefusal h n ≡ 0
 unfolding storageRefusal
@@ -171,8 +170,8 @@ unfolding rangeRefusal
 range-accepts h n e z l = rw (z, le-leb e (capacityOf h) l)
 
 pub lent-wipes : (h : Ledger) (n k : ℕ) → LentEnough h n k → wipeRefusal h n ≡ 0
-unfolding wipeRefusal longStorage
-lent-wipes h n k a = rw (a .good, le-leb _ _ (a .long))
+unfolding wipeRefusal
+lent-wipes h n k a = rw (a .good, enough (h .set .words) 0 n 0 (a .long) (omega arith))
 
 -- ---- the head that a call gives: the same words and journal length, a population that counts a set, U within J
 

@@ -1,4 +1,5 @@
--- 01's starred cases: one table, and one result that computes it over the definitions that the promises cite. Assumes nothing.
+-- 01's starred cases: one table, and one result that computes it over the definitions that the promises cite; and the numbers
+-- that 01 gives in passing. Assumes nothing.
 use mathlib.Core.Path.{_≡_, refl}
 use mathlib.Core.Bool.{Bool, true, false, cond}
 use mathlib.Core.List.{List, [], _∷_, map}
@@ -9,8 +10,10 @@ use Rattle.positions.specs.Positions.{Positions, none, assigned, total, sumOver
 use Rattle.positions.specs.Runs.{runsFrom, runs, changedRuns}
 use Rattle.range_bitset.specs.Layout.{allowed, needed}
 use Rattle.range_bitset.specs.Answers.{Reply, Number, Nothing, Refusal, refused, ofFound, allowedCapacity, goodHead, storageRefusal, rangeRefusal}
-use Rattle.ledger.specs.Machine.{Machine, fresh, Call, Range, Back, setOf, population, needOf, made, used, rangeVerdict, step}
-use Rattle.ledger.specs.Entries.{ofAnswer, lentEnough, newOf}
+use Rattle.ledger.specs.Machine.{Machine, fresh, Call, Range, Back, setOf, population, needOf, made, used, rangeVerdict, step, after}
+use Rattle.ledger.specs.Journal.{written, journalOf}
+use Rattle.ledger.specs.Memory.{lentEnough}
+use Rattle.ledger.specs.Entries.{ofAnswer, newOf}
 use Rattle.ledger.specs.declared.Opened.{Opened}
 use Rattle.ledger.specs.declared.Opened.the-variants as opened
 
@@ -121,3 +124,14 @@ cases =
 pub cases-right : map (λ (c : Case). c .given) cases ≡ map (λ (c : Case). c .wanted) cases
 unfolding within assigned total sumOver countFrom count firstFrom first changedCount runsFrom runs changedRuns ones allowed allowedCapacity goodHead storageRefusal rangeRefusal setOf population needOf made used rangeVerdict step lentEnough newOf
 cases-right = refl
+
+-- 4,096 words need 4,290 numbers; the capacities 96 and 524,288 are refused 1
+pub limits : (needed 4096 ≡ 4290) × (allowedCapacity 96 ≡ false) × (allowedCapacity 524288 ≡ false)
+unfolding allowedCapacity allowed ones
+limits = (refl, refl, refl)
+
+-- the journal of the listing's first three calls: each call's runs, then 2 × runs + value
+pub listing-journal : journalOf none (after (fresh 128 20) (Range 10 70 true ∷ Range 20 30 false ∷ Range 0 128 true ∷ []) .last .standing)
+    ≡ 10 ∷ 70 ∷ 3 ∷ 20 ∷ 30 ∷ 2 ∷ 0 ∷ 10 ∷ 20 ∷ 30 ∷ 70 ∷ 128 ∷ 7 ∷ []
+unfolding after written assigned total sumOver countFrom count changedCount runsFrom runs changedRuns setOf population needOf made used rangeVerdict step
+listing-journal = refl

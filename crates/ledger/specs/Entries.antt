@@ -12,7 +12,7 @@ use Rattle.range_bitset.specs.Answers.{Reply, Number, Nothing, Refusal, Accepte
 use Rattle.range_bitset.specs.declared.RangeBitset.{RangeBitset}
 use Rattle.saved_list.specs.Format.{savedWords, savedCount, savedCapacity, savedPositions, headed, whole, firstBadRun}
 use Rattle.ledger.specs.Machine.{Machine, Standing, openedWith, Call, Range, Back, Wipe, Answer, Done, Refused, step}
-use Rattle.ledger.specs.Memory.{Memory, memory, callRefusal, Holds}
+use Rattle.ledger.specs.Memory.{Memory, memory, lentEnough, callRefusal, Holds}
 use Rattle.ledger.specs.declared.Ledger.{Ledger}
 use Rattle.ledger.specs.declared.Opened.{Opened}
 use Rattle.ledger.specs.declared.Opened.the-variants as opened
@@ -65,10 +65,6 @@ pub record Called (c : Call) (before : Memory) (r : Reply) (next : Memory) : Typ
 
 abbrev pub newHead : ℕ → ℕ → Bool → Ledger
 newHead W j x = record { set = record { words = W; len = 0; allocated = x }; journal = j; used = 0 }
-
--- what new and open are lent: n storage numbers and k journal numbers for W words and a journal of j
-unfoldable pub lentEnough : ℕ → ℕ → ℕ → ℕ → Bool
-lentEnough W j n k = leb (needed W) n && leb j k
 
 -- 1, then 3, or the head of a fresh ledger: its flag clear and U = 0
 unfoldable pub newOf : ℕ → ℕ → ℕ → ℕ → Opened

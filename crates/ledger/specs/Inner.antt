@@ -22,12 +22,9 @@ use Rattle.ledger.specs.Machine.{needOf}
 use Rattle.ledger.specs.Memory.{Memory, memory}
 use Rattle.ledger.specs.Entries.{refusalOf}
 use Rattle.ledger.specs.History.{Chain}
-use Rattle.ledger.specs.Replay.{Encoded, callsTo, fitting, codeOf, refusalIn}
 use Rattle.ledger.specs.declared.Ledger.{Ledger}
 use Rattle.ledger.specs.declared.Opened.{Opened}
 use Rattle.ledger.specs.declared.Opened.the-variants as opened
-use Rattle.ledger.specs.declared.replay.Replayed.{Replayed}
-use Rattle.ledger.specs.declared.replay.Replayed.the-variants as replayed
 use Rattle.ledger.specs.declared.Last.{Last}
 use Rattle.ledger.specs.declared.Last.the-variants as last
 use Rattle.ledger.specs.Journal.{pairs, written}
@@ -127,20 +124,3 @@ unfoldable pub lastOf : List ℕ → ℕ → Last
 lastOf j u =
     cond (eqb u 0) last.NoCall
     (last.Standing (min (getD j (u - 1) 0 / 2) ((u - 1) / 2)) (eqb (getD j (u - 1) 0 % 2) 1))
-
--- ---- replay
-
--- a chain of the entries' promises over the first i calls, with its replies written out
-pub record Chained (i : ℕ) (start : Memory) (l : Encoded) (answers answers′ : List ℕ) (end : Memory) : Type 0 where
-  pub others : drop i answers′ ≡ drop i answers
-  pub replies : List Reply
-  pub written : take i answers′ ≡ map codeOf replies
-  pub chain : Chain start (callsTo l i) replies end
-
--- what follows on new's or open's answer o: its refusal handed on with nothing changed, or as many calls as fit
-pub record Continues (o : Opened) (l : Encoded) (st journal answers : List ℕ) (r : Replayed) (st′ journal′ answers′ : List ℕ) : Type 0 where
-  pub refuses : refusalIn r ≡ refusalOf o
-  pub unchanged : (refusalOf o ≡ [] → ⊥) → (st′ ≡ st) × (journal′ ≡ journal) × (answers′ ≡ answers)
-  pub ran : (h : Ledger) (n : ℕ) → r ≡ replayed.Ran h n
-      → (n ≡ fitting l (length answers)) × ((start : Ledger) → o ≡ opened.Head start
-      → Chained n (memory start st journal) l answers answers′ (memory h st′ journal′))

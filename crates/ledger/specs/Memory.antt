@@ -7,7 +7,7 @@ use lib.Dec.{eqb, leb, ltb}
 use lib.ListN.{length, take}
 use Rattle.range_bitset.specs.Layout.{needed}
 use Rattle.range_bitset.specs.Represents.{Represents, capacityOf}
-use Rattle.range_bitset.specs.Answers.{goodHead, first-of}
+use Rattle.range_bitset.specs.Answers.{goodHead, firstOf}
 use Rattle.ledger.specs.Machine.{Machine, setOf, used, Call, Range, Back, Wipe, Kept}
 use Rattle.ledger.specs.Journal.{journalOf}
 use Rattle.ledger.specs.declared.Ledger.{Ledger}
@@ -27,24 +27,24 @@ memory h st j = record { head = h; storage = st; journal = j }
 unfoldable pub goodLedger : Ledger → Bool
 goodLedger h = goodHead (h .set) && (leb (h .journal) 16384 && leb (h .used) (h .journal))
 
--- 3: storage shorter than needed, or a journal shorter than J
-unfoldable pub longStorage : Ledger → ℕ → Bool
-longStorage h n = leb (needed (h .set .words)) n
+-- 3: n storage numbers and k journal numbers are enough for W words and a journal of j
+unfoldable pub lentEnough : ℕ → ℕ → ℕ → ℕ → Bool
+lentEnough W j n k = leb (needed W) n && leb j k
 
 unfoldable pub lentRefusal : Ledger → ℕ → ℕ → ℕ
-lentRefusal h n k = cond (goodLedger h) (cond (longStorage h n && leb (h .journal) k) 0 3) 2
+lentRefusal h n k = cond (goodLedger h) (cond (lentEnough (h .set .words) (h .journal) n k) 0 3) 2
 
 -- wipe is lent no journal
 unfoldable pub wipeRefusal : Ledger → ℕ → ℕ
-wipeRefusal h n = cond (goodLedger h) (cond (longStorage h n) 0 3) 2
+wipeRefusal h n = cond (goodLedger h) (cond (lentEnough (h .set .words) 0 n 0) 0 3) 2
 
 -- 4: an end above the capacity (a point p ends at p + 1); 6: U = J, since every marking and clearing needs a number;
 -- 5: take-back with U = 0
 unfoldable pub callRefusal : Call → Memory → ℕ
 callRefusal (Range a e v) x =
-    first-of (lentRefusal (x .head) (length (x .storage)) (length (x .journal)))
+    firstOf (lentRefusal (x .head) (length (x .storage)) (length (x .journal)))
     (cond (leb e (capacityOf (x .head .set))) (cond (eqb (x .head .used) (x .head .journal)) 6 0) 4)
-callRefusal Back x = first-of (lentRefusal (x .head) (length (x .storage)) (length (x .journal))) (cond (eqb (x .head .used) 0) 5 0)
+callRefusal Back x = firstOf (lentRefusal (x .head) (length (x .storage)) (length (x .journal))) (cond (eqb (x .head .used) 0) 5 0)
 callRefusal Wipe x = wipeRefusal (x .head) (length (x .storage))
 
 -- ---- the relation

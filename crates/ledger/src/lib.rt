@@ -11,12 +11,9 @@ ghost use Rattle.positions.specs.Positions.{one};
 ghost use Rattle.range_bitset.specs.Answers.{ofCounted};
 ghost use Rattle.range_bitset.specs.declared.Counted.the-variants as counted;
 ghost use Rattle.ledger.specs.Machine.{Range, Back, Wipe, point};
-ghost use Rattle.ledger.specs.Memory.{memory, goodLedger, lentRefusal, wipeRefusal, callRefusal};
-ghost use Rattle.ledger.specs.Entries.{Called as CallEnsures, lentEnough, newOf, OpenEnsures};
+ghost use Rattle.ledger.specs.Memory.{memory, goodLedger, lentEnough, lentRefusal, wipeRefusal, callRefusal};
+ghost use Rattle.ledger.specs.Entries.{Called as CallEnsures, newOf, OpenEnsures};
 ghost use Rattle.ledger.specs.Inner.{Finds, RunsFit, CountsRuns, WritesCall, WritesRuns, readRuns, AssignsRuns, OpensRuns, lastOf, placeIn, countIn};
-
-pub mod replay; // replay.rt: a list of calls run through the entries
-
 use range_bitset::Counted;
 use range_bitset::Found;
 use range_bitset::Made;

@@ -7,6 +7,7 @@ use native.Mathlib.Omega.{arith}
 use borrow.Author.Tests.{ltb-true, ltb-false}
 use lib.Dec.{ltb}
 use Rattle.positions.specs.Positions.{Positions, Found, At, None, differ, firstFrom, first}
+use Rattle.positions.specs.Walks.{Lacks, Stops, below}
 
 -- position p is the first of a..e with the value v
 pub record IsFirst (s : Positions) (v : Bool) (a e p : ℕ) : Type 0 where
@@ -14,10 +15,6 @@ pub record IsFirst (s : Positions) (v : Bool) (a e p : ℕ) : Type 0 where
   pub high : p < e
   pub value : s p ≡ v
   pub none-before : (i : ℕ) → a ≤ i → i < p → s i ≡ not v
-
--- no position of a..e has the value v
-abbrev pub Lacks : Positions → Bool → ℕ → ℕ → Type 0
-Lacks s v a e = (i : ℕ) → a ≤ i → i < e → s i ≡ not v
 
 -- either answer with what it means
 pub data Searched (s : Positions) (v : Bool) (a e : ℕ) : Found → Type 0 where
@@ -118,17 +115,7 @@ unfolding first
 first-means s v a e =
     searched-to s v a e (a + (e - a)) (λ i u w. omega arith) (λ i u w. omega arith) (firstFrom s v a (e - a)) (from-means s v a (e - a))
 
--- ---- a walk that stopped at p, at the end c where it found nothing: the answer of the search to any end up to c
-
-pub record Stops (s : Positions) (v : Bool) (a c p : ℕ) : Type 0 where
-  pub low : a ≤ p
-  pub high : p ≤ c
-  pub passed : Lacks s v a p
-  pub found : p < c → s p ≡ v
-
--- p, if it lies below the end
-abbrev pub below : ℕ → ℕ → Found
-below p e = cond (ltb p e) (At p) None
+-- ---- a walk that stopped at p: the answer of the search to any end up to c
 
 pub first-below : (s : Positions) (v : Bool) (a c e p : ℕ) → Stops s v a c p → e ≤ c → first s v a e ≡ below p e
 first-below s v a c e p z h = go (ltb p e) refl

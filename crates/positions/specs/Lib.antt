@@ -1,3 +1,4 @@
 -- What the contracts of the other crates speak with: sets of positions, sums and counts, searches, runs. Assumes nothing.
 pub mod Positions
 pub mod Runs
+pub mod Walks

@@ -11,7 +11,7 @@ use lib.Pow.{pow-mono, pow-pos, ones-lt}
 use borrow.Author.Tests.{lt-ltb, eq-eqb, not-false, le-leb}
 use Rattle.positions.specs.Positions.{Positions}
 use Rattle.positions.proofs.Ranges.{within-in}
-use Rattle.positions.proofs.Searches.{Lacks}
+use Rattle.positions.specs.Walks.{Lacks}
 use Rattle.bits.specs.Bit.{bit, mask}
 use Rattle.bits.proofs.Bits.{bit-zero, bit-ones, bit-and, bit-not, bit-none, bit-all, bit-ext}
 use Rattle.bits.proofs.Words.{mask-lt, mask-at, mask-ext, mask-none, mask-all}

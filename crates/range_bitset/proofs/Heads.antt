@@ -11,7 +11,7 @@ use borrow.Author.Tests.{leb-true, ltb-true, ltb-false, eqb-true, eqb-false}
 use Rattle.positions.proofs.Bools.{and-left, and-right}
 use Rattle.range_bitset.specs.Layout.{allowed, needed}
 use Rattle.range_bitset.specs.Represents.{capacityOf}
-use Rattle.range_bitset.specs.Answers.{Reply, Number, Nothing, Refusal, refused, Accepted, goodHead, storageRefusal, rangeRefusal, pointRefusal, first-of}
+use Rattle.range_bitset.specs.Answers.{Reply, Number, Nothing, Refusal, refused, Accepted, goodHead, storageRefusal, rangeRefusal, pointRefusal, firstOf}
 use Rattle.range_bitset.specs.Inner.{Room}
 use Rattle.range_bitset.specs.declared.RangeBitset.{RangeBitset}
 
@@ -50,7 +50,7 @@ accepted h st e = by (goodHead h) refl (ltb (length st) (needed (h .words))) ref
         record { some = b .0; most = b .1; long = ltb-false _ _ q }
 
 -- a chain that gives 0 gives 0 at each link
-chain : (k : ℕ) (t : Bool) → first-of k (cond t 0 4) ≡ 0 → (k ≡ 0) × (t ≡ true)
+chain : (k : ℕ) (t : Bool) → firstOf k (cond t 0 4) ≡ 0 → (k ≡ 0) × (t ≡ true)
 chain k t e = by (eqb k 0) refl t refl e
   where
     by : (z : Bool) → eqb k 0 ≡ z → (u : Bool) → t ≡ u → cond z (cond u 0 4) k ≡ 0 → (k ≡ 0) × (t ≡ true)

@@ -9,7 +9,8 @@ use native.Mathlib.Omega.{arith}
 use lib.ListN.{length}
 use Rattle.positions.specs.Positions.{Positions, one, Found, At, None}
 use Rattle.positions.proofs.Counts.{count-empty, count-none, count-zero}
-use Rattle.positions.proofs.Searches.{first-none, first-at, first-below, below}
+use Rattle.positions.specs.Walks.{below}
+use Rattle.positions.proofs.Searches.{first-none, first-at, first-below}
 use Rattle.bits.specs.Bit.{bit}
 use Rattle.range_bitset.specs.Read.{wordRead}
 use Rattle.range_bitset.specs.Represents.{closed, Represents, Stored, capacityOf}

@@ -16,7 +16,7 @@ use borrow.Author.Tests.{not-true, not-false, leb-true}
 use Rattle.positions.specs.Positions.{Positions}
 use Rattle.positions.proofs.Bools.{and-left, and-right}
 use Rattle.positions.proofs.Ranges.{within-in}
-use Rattle.positions.proofs.Searches.{Lacks, Stops}
+use Rattle.positions.specs.Walks.{Lacks, Stops}
 use Rattle.bits.specs.Bit.{bit}
 use Rattle.bits.proofs.Bits.{bit-zero, bit-and, bit-not, bit-beyond}
 use Rattle.bits.proofs.Ones.{tz-below, tz-bit, tz-lt, tz-set}

@@ -67,11 +67,11 @@ unfoldable pub storageRefusal : RangeBitset → ℕ → ℕ
 storageRefusal h n = cond (goodHead h) (cond (ltb n (needed (h .words))) 3 0) 2
 
 -- 2, 3, then 4: an end above the capacity, or a point at or above it
-abbrev pub first-of : ℕ → ℕ → ℕ
-first-of k next = cond (eqb k 0) next k
+abbrev pub firstOf : ℕ → ℕ → ℕ
+firstOf k next = cond (eqb k 0) next k
 
 unfoldable pub rangeRefusal : RangeBitset → ℕ → ℕ → ℕ
-rangeRefusal h n e = first-of (storageRefusal h n) (cond (leb e (capacityOf h)) 0 4)
+rangeRefusal h n e = firstOf (storageRefusal h n) (cond (leb e (capacityOf h)) 0 4)
 
 unfoldable pub pointRefusal : RangeBitset → ℕ → ℕ → ℕ
-pointRefusal h n i = first-of (storageRefusal h n) (cond (ltb i (capacityOf h)) 0 4)
+pointRefusal h n i = firstOf (storageRefusal h n) (cond (ltb i (capacityOf h)) 0 4)

@@ -8,7 +8,7 @@ use lib.Dec.{eqb}
 use lib.Count.{ones, trailingZeros}
 use lib.ListN.{length, drop, set}
 use Rattle.positions.specs.Positions.{Positions, within, assigned, changedCount, count, sumOver}
-use Rattle.positions.proofs.Searches.{Lacks, Stops}
+use Rattle.positions.specs.Walks.{Lacks, Stops}
 use Rattle.bits.specs.Bit.{bit, put}
 use Rattle.range_bitset.specs.Layout.{blocks, wordsOf, needed, Slot, word, nonzero, full, population, topNonzero, topFull, address, at}
 use Rattle.range_bitset.specs.Read.{ALL, stateOf, mixedRead, wordRead}

@@ -20,7 +20,7 @@ ghost use lib.Dec.{eqb};
 ghost use Prim.Native.Nat.{ℕ, _+_, _*_, _-_, _%_, _^_, _<_, _≤_};
 ghost use lib.ListN.{length, getD};
 ghost use Rattle.positions.specs.Positions.{sumOver};
-ghost use Rattle.positions.proofs.Searches.{below};
+ghost use Rattle.positions.specs.Walks.{below};
 ghost use Rattle.bits.specs.Bit.{bit, put};
 ghost use Rattle.range_bitset.specs.Layout.{allowed, blocks, wordsOf, address, at, nonzero, full, population, topNonzero, topFull};
 ghost use Rattle.range_bitset.specs.Read.{ALL, stateOf, mixedRead, wordRead};

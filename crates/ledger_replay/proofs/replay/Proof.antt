@@ -1,9 +1,9 @@
--- `replay::replay` meets its contract. Assumes nothing.
+-- `replay` meets its contract. Assumes nothing.
 use native.Mathlib.Omega.{arith}
 use borrow.Author.Needs.{needs}
-use Rattle.ledger.proofs.Replays.{continues-ran, continues-refused, continues-bad, continued}
-use Rattle.ledger.proofs.replay.replay.Statement.{statement}
-use Rattle.ledger.proofs.replay.replay.Tie as tie
+use Rattle.ledger_replay.proofs.Replays.{continues-ran, continues-refused, continues-bad, continued}
+use Rattle.ledger_replay.proofs.replay.Statement.{statement}
+use Rattle.ledger_replay.proofs.replay.Tie as tie
 
 enum-known-opened : tie.Need-enum-known-opened
 enum-known-opened c = search needs

@@ -4,13 +4,13 @@ ghost use mathlib.Core.Path.{_≡_};
 ghost use Prim.Native.Nat.{_≤_, min};
 ghost use lib.ListN.{length};
 ghost use Rattle.range_bitset.specs.Answers.{ofCounted};
 ghost use Rattle.ledger.specs.Memory.{memory};
 ghost use Rattle.ledger.specs.Entries.{Called as CallEnsures};
-ghost use Rattle.ledger.specs.Replay.{encoded, callOf, codeOf, ReplaysNew, ReplaysOpen};
-ghost use Rattle.ledger.specs.Inner.{Chained, Continues};
-use crate::Called;
-use crate::Ledger;
-use crate::Opened;
+ghost use Rattle.ledger_replay.specs.Replay.{encoded, callOf, codeOf, ReplaysNew, ReplaysOpen};
+ghost use Rattle.ledger_replay.specs.Inner.{Chained, Continues};
+use ledger::Called;
+use ledger::Ledger;
+use ledger::Opened;
 use range_bitset::Counted;
 
 // The head after the calls and how many were run, or the refusal of new or open.

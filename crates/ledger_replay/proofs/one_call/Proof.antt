@@ -1,9 +1,9 @@
--- `replay::one_call` meets its contract: the promise of the entry that it calls. Assumes nothing.
+-- `one_call` meets its contract: the promise of the entry that it calls. Assumes nothing.
 use borrow.Author.Needs.{needs}
-use Rattle.ledger.specs.Replay.{callOf}
-use Rattle.ledger.proofs.Replays.{called-kind, called-wipe}
-use Rattle.ledger.proofs.replay.one_call.Statement.{statement}
-use Rattle.ledger.proofs.replay.one_call.Tie as tie
+use Rattle.ledger_replay.specs.Replay.{callOf}
+use Rattle.ledger_replay.proofs.Replays.{called-kind, called-wipe}
+use Rattle.ledger_replay.proofs.one_call.Statement.{statement}
+use Rattle.ledger_replay.proofs.one_call.Tie as tie
 
 mark-requires : tie.Need-mark-requires
 mark-requires c κs = search needs

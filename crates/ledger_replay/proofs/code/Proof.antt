@@ -1,11 +1,11 @@
--- `replay::code` meets its contract. Assumes nothing.
+-- `code` meets its contract. Assumes nothing.
 use mathlib.Core.Path.{sym, ap}
 use borrow.Author.Needs.{needs}
-use Rattle.ledger.specs.Replay.{codeOf}
+use Rattle.ledger_replay.specs.Replay.{codeOf}
 use Rattle.range_bitset.specs.Answers.{ofCounted}
 use Rattle.range_bitset.specs.declared.Counted.{Counted}
-use Rattle.ledger.proofs.replay.code.Statement.{statement}
-use Rattle.ledger.proofs.replay.code.Tie as tie
+use Rattle.ledger_replay.proofs.code.Statement.{statement}
+use Rattle.ledger_replay.proofs.code.Tie as tie
 
 enum-known-answer : tie.Need-enum-known-answer
 enum-known-answer c = search needs

@@ -1,15 +1,15 @@
--- `replay::run` meets its contract. The loop's invariant: the calls before `i` are a chain. Assumes nothing.
+-- `run` meets its contract. The loop's invariant: the calls before `i` are a chain. Assumes nothing.
 use mathlib.Core.Path.{_≡_}
 use Prim.Native.Nat.{_*_, _-_, _≤_, _<_}
 use native.Mathlib.Omega.{arith}
 use lib.ListN.{length}
 use borrow.Author.Needs.{needs}
-use Rattle.ledger.specs.Replay.{encoded}
+use Rattle.ledger_replay.specs.Replay.{encoded}
 use Rattle.ledger.specs.Memory.{memory}
-use Rattle.ledger.specs.Inner.{Chained}
-use Rattle.ledger.proofs.Replays.{chained-none, chained-more, chained-at}
-use Rattle.ledger.proofs.replay.run.Statement.{statement}
-use Rattle.ledger.proofs.replay.run.Tie as tie
+use Rattle.ledger_replay.specs.Inner.{Chained}
+use Rattle.ledger_replay.proofs.Replays.{chained-none, chained-more, chained-at}
+use Rattle.ledger_replay.proofs.run.Statement.{statement}
+use Rattle.ledger_replay.proofs.run.Tie as tie
 
 abbrev Inv-loop : tie.InvT-loop
 Inv-loop storage₀ journal₀ kinds starts ends answers₀ calls head₀ i₀ storage journal answers head i =

@@ -1,8 +1,8 @@
--- `replay::replay_new` meets its contract. Assumes nothing.
+-- `replay_new` meets its contract. Assumes nothing.
 use borrow.Author.Needs.{needs}
-use Rattle.ledger.proofs.Replays.{replays-new}
-use Rattle.ledger.proofs.replay.replay_new.Statement.{statement}
-use Rattle.ledger.proofs.replay.replay_new.Tie as tie
+use Rattle.ledger_replay.proofs.Replays.{replays-new}
+use Rattle.ledger_replay.proofs.replay_new.Statement.{statement}
+use Rattle.ledger_replay.proofs.replay_new.Tie as tie
 
 new-requires : tie.Need-new-requires
 new-requires c κs = search needs

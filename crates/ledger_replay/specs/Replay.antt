@@ -8,14 +8,14 @@ use lib.Dec.{eqb}
 use lib.ListN.{length, getD, take, drop}
 use Rattle.range_bitset.specs.Answers.{Reply, Number, Nothing, Refusal}
 use Rattle.saved_list.specs.Format.{savedCapacity, savedPositions}
 use Rattle.ledger.specs.Machine.{Machine, fresh, openedWith, Call, Range, Back, Wipe, point, after}
 use Rattle.ledger.specs.Memory.{Memory, memory}
 use Rattle.ledger.specs.Entries.{newOf, refusalOf, openRefusal, OpenEnsures}
 use Rattle.ledger.specs.History.{Chain, Agrees}
 use Rattle.ledger.specs.declared.Ledger.{Ledger}
 use Rattle.ledger.specs.declared.Opened.the-variants as opened
-use Rattle.ledger.specs.declared.replay.Replayed.{Replayed}
-use Rattle.ledger.specs.declared.replay.Replayed.the-variants as replayed
+use Rattle.ledger_replay.specs.declared.Replayed.{Replayed}
+use Rattle.ledger_replay.specs.declared.Replayed.the-variants as replayed
 
 -- ---- the calls as numbers: a kind, a start and an end each
 

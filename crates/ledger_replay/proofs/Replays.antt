@@ -9,18 +9,18 @@ use lib.ListN.{length, getD, drop, set}
 use lib.Seq.{take-suc-set, drop-set-lt, drop-drop}
 use Rattle.range_bitset.specs.Answers.{Reply}
 use Rattle.saved_list.specs.Format.{savedCapacity, savedPositions}
 use Rattle.ledger.specs.Machine.{Machine, fresh, openedWith, Call, Wipe}
 use Rattle.ledger.specs.Memory.{Memory, memory, Holds}
 use Rattle.ledger.specs.Entries.{Called, newOf, refusalOf, OpenEnsures}
 use Rattle.ledger.specs.History.{by-new, Chain, none, call}
-use Rattle.ledger.specs.Replay.{Encoded, callOf, callsTo, fitting, codeOf, refusalIn, Replays, GivenByNew, GivenByOpen, ReplaysNew, ReplaysOpen}
-use Rattle.ledger.specs.Inner.{Chained, Continues}
+use Rattle.ledger_replay.specs.Replay.{Encoded, callOf, callsTo, fitting, codeOf, refusalIn, Replays, GivenByNew, GivenByOpen, ReplaysNew, ReplaysOpen}
+use Rattle.ledger_replay.specs.Inner.{Chained, Continues}
 use Rattle.ledger.specs.declared.Ledger.{Ledger}
 use Rattle.ledger.specs.declared.Opened.{Opened}
 use Rattle.ledger.specs.declared.Opened.the-variants as opened
-use Rattle.ledger.specs.declared.replay.Replayed.{Replayed}
-use Rattle.ledger.specs.declared.replay.Replayed.the-variants as replayed
+use Rattle.ledger_replay.specs.declared.Replayed.{Replayed}
+use Rattle.ledger_replay.specs.declared.Replayed.the-variants as replayed
 use Rattle.ledger.proofs.Histories.{begun, chain-agrees, headOr}
 
 -- ---- the kinds
 

@@ -1,8 +1,8 @@
--- `replay::replay_open` meets its contract. Assumes nothing.
+-- `replay_open` meets its contract. Assumes nothing.
 use borrow.Author.Needs.{needs}
-use Rattle.ledger.proofs.Replays.{replays-open}
-use Rattle.ledger.proofs.replay.replay_open.Statement.{statement}
-use Rattle.ledger.proofs.replay.replay_open.Tie as tie
+use Rattle.ledger_replay.proofs.Replays.{replays-open}
+use Rattle.ledger_replay.proofs.replay_open.Statement.{statement}
+use Rattle.ledger_replay.proofs.replay_open.Tie as tie
 
 open-requires : tie.Need-open-requires
 open-requires c κs = search needs
