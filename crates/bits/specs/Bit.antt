@@ -1,6 +1,6 @@
 -- A word read bit by bit: the set of its bits, the word that has given bits, and a word with some bits given a value.
 -- `ones` and `trailingZeros`, of the kit's `lib.Count`, are the machine's counts. Assumes nothing.
-use mathlib.Core.Bool.{Bool, true, false, cond}
+use mathlib.Core.Bool.{Bool, cond}
 use Prim.Native.Nat.{ℕ, zero, suc, _+_, _*_, _-_, _/_, _%_, _^_}
 use lib.Dec.{eqb}
 use lib.Bits.{bitAnd, bitOr}

@@ -12,7 +12,6 @@ use Rattle.positions.specs.Runs.{changedRuns, assignedRuns}
 use Rattle.ledger.specs.Machine.{Standing, Machine, held, setOf, population, needs, used, Call, Range, Back, Wipe, Done, Refused, needOf, made, Verdict, Accepted, Declined, unless, rangeVerdict, standsAny, verdict, amount, withStanding, fresh, nextOf, Step, decided, step, after, added, changedBy, Stands, Made, Kept, openedWith}
 use Rattle.ledger.specs.Journal.{written, entry, journalOf}
 use Rattle.positions.proofs.Ranges.{within-behind}
-use Rattle.positions.proofs.Counts.{count-le}
 use Rattle.positions.proofs.Assigned.{assigned-count, gain, loss}
 use Rattle.positions.proofs.Runs.{take-back-restores}
 use Rattle.ledger.proofs.Journals.{length-entry}
@@ -64,10 +63,6 @@ set-after-range m a e v = held-added (m .opened) (m .standing) a e v
 pub set-after-back : (o : Positions) (c : Standing) (cs : List Standing)
     → assignedRuns (held o (c ∷ cs)) (changedRuns (held o cs) (c .start) (c .end) (c .value)) (not (c .value)) ≡ held o cs
 set-after-back o c cs = take-back-restores (held o cs) (c .start) (c .end) (c .value)
-
-pub population-le : (m : Machine) → population m ≤ m .capacity
-unfolding population
-population-le m = omega (arith, count-le (setOf m) 0 (m .capacity))
 
 -- demand 3's sum, with no subtraction that could cut at 0
 held-balance : (c : ℕ) (o : Positions) (cs : List Standing) → Made c o cs
@@ -161,11 +156,6 @@ step-capacity m c = go (verdict m c) c
     go Accepted Wipe = refl
     go (Declined k) c = refl
 
-pub after-capacity : (m : Machine) (cs : List Call) → after m cs .last .capacity ≡ m .capacity
-unfolding after
-after-capacity m [] = refl
-after-capacity m (c ∷ cs) = after-capacity (step m c .next) cs ∙ step-capacity m c
-
 -- the machine's step, case by case: what each return of an entry cites
 abbrev pub stayed : Machine → ℕ → Step
 stayed m k = record { next = m; answer = Refused k }
@@ -195,10 +185,6 @@ pub step-back : (m : Machine) (c : Standing) (cs : List Standing) → m .standin
     → step m Back ≡ record { next = withStanding m cs; answer = Done (c .changed) }
 unfolding step
 step-back m c cs h = rw h
-
-pub step-wipe : (m : Machine) → step m Wipe ≡ went m Wipe
-unfolding step
-step-wipe m = refl
 
 -- ---- every machine that is `Kept` is what a list of calls gives from its opened set: the standing calls, first made first
 

@@ -4,15 +4,15 @@ use mathlib.Core.Bool.{Bool, true, false, not, cond, false≢true}
 use mathlib.Core.List.{List, [], _∷_}
 use Prim.Native.Nat.{ℕ, _*_, _/_, _%_, _≤_, _<_}
 use native.Mathlib.Omega.{arith}
-use borrow.Author.Tests.{le-leb, lt-leb, leb-true, lt-ltb, le-ltb}
-use lib.Dec.{eqb, leb}
+use borrow.Author.Tests.{le-leb, lt-leb, lt-ltb, le-ltb}
+use lib.Dec.{eqb}
 use lib.ListN.{length}
-use Rattle.positions.proofs.Bools.{and-left, and-right}
+use Rattle.positions.proofs.Bools.{and-right}
 use Rattle.positions.specs.Positions.{Positions, none}
 use Rattle.positions.specs.Runs.{Ascending}
 use Rattle.positions.proofs.Counts.{count-none}
 use Rattle.positions.proofs.Runs.{covered-above}
-use Rattle.range_bitset.specs.Layout.{allowed, needed}
+use Rattle.range_bitset.specs.Layout.{allowed}
 use Rattle.range_bitset.specs.Represents.{Represents}
 use Rattle.range_bitset.specs.Answers.{allowedCapacity, goodHead, storageRefusal}
 use Rattle.range_bitset.specs.Entries.{newOf as setNew}

@@ -3,13 +3,11 @@ use mathlib.Core.Path.{_≡_}
 use mathlib.Core.Logic.{_⊎_}
 use mathlib.Core.Bool.{Bool, true, false, not, _&&_, _||_, cond}
 use mathlib.Core.List.{List, [], _∷_}
-use Prim.Native.Nat.{ℕ, _+_, _*_, _/_, _≤_, _<_}
+use Prim.Native.Nat.{ℕ, _/_, _≤_, _<_}
 use lib.Dec.{eqb, leb, ltb}
 use lib.ListN.{length, getD, drop}
-use Rattle.positions.specs.Positions.{Positions}
 use Rattle.range_bitset.specs.Layout.{needed}
 use Rattle.range_bitset.specs.Answers.{Reply, Number, Nothing, Refusal, Accepted, allowedCapacity}
-use Rattle.range_bitset.specs.declared.RangeBitset.{RangeBitset}
 use Rattle.saved_list.specs.Format.{savedWords, savedCount, savedCapacity, savedPositions, headed, whole, firstBadRun}
 use Rattle.ledger.specs.Machine.{Machine, Standing, openedWith, Call, Range, Back, Wipe, Answer, Done, Refused, step}
 use Rattle.ledger.specs.Memory.{Memory, memory, lentEnough, callRefusal, Holds}

@@ -3,7 +3,7 @@
 use mathlib.Core.Path.{_≡_}
 use mathlib.Core.Logic.{_⊎_}
 use mathlib.Core.Bool.{Bool, true, false, _&&_, _||_, cond}
-use mathlib.Core.List.{List, [], _∷_, _++_, map}
+use mathlib.Core.List.{List, [], _∷_, _++_}
 use Prim.Native.Nat.{ℕ, zero, suc, _+_, _*_, _-_, _/_, _%_, _≤_, _<_, min}
 use lib.Dec.{eqb, ltb, leb}
 use lib.ListN.{length, getD, take, drop}
@@ -11,7 +11,7 @@ use Rattle.positions.specs.Positions.{Positions, assigned, first, changedCount}
 use Rattle.positions.specs.Runs.{Run, run, placeOr, changedRuns, assignedRuns}
 use Rattle.range_bitset.specs.Layout.{needed}
 use Rattle.range_bitset.specs.Represents.{Represents, capacityOf}
-use Rattle.range_bitset.specs.Answers.{Reply, rangeRefusal, storageRefusal}
+use Rattle.range_bitset.specs.Answers.{rangeRefusal, storageRefusal}
 use Rattle.range_bitset.specs.declared.RangeBitset.{RangeBitset}
 use Rattle.range_bitset.specs.declared.Counted.{Counted}
 use Rattle.range_bitset.specs.declared.Counted.the-variants as counted
@@ -19,12 +19,6 @@ use Rattle.range_bitset.specs.declared.Found.{Found as Place}
 use Rattle.range_bitset.specs.declared.Found.the-variants as place
 use Rattle.saved_list.specs.Format.{runsAfter, heldCount}
 use Rattle.ledger.specs.Machine.{needOf}
-use Rattle.ledger.specs.Memory.{Memory, memory}
-use Rattle.ledger.specs.Entries.{refusalOf}
-use Rattle.ledger.specs.History.{Chain}
-use Rattle.ledger.specs.declared.Ledger.{Ledger}
-use Rattle.ledger.specs.declared.Opened.{Opened}
-use Rattle.ledger.specs.declared.Opened.the-variants as opened
 use Rattle.ledger.specs.declared.Last.{Last}
 use Rattle.ledger.specs.declared.Last.the-variants as last
 use Rattle.ledger.specs.Journal.{pairs, written}

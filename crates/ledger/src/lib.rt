@@ -3,15 +3,15 @@
 // lent with each call. Work is bounded by the ends of the range and the runs changed, never by the capacity.
 // Assumes nothing of its callers: no entry has a `requires`.
 ghost use mathlib.Core.Path.{_≡_};
-ghost use mathlib.Core.Bool.{true, false, not};
+ghost use mathlib.Core.Bool.{true, false};
 ghost use mathlib.Core.List.{List};
-ghost use Prim.Native.Nat.{ℕ, suc, _+_, _*_, _-_, _/_, _%_, _<_, _≤_};
+ghost use Prim.Native.Nat.{ℕ, _+_, _*_, _-_, _/_, _%_, _<_, _≤_};
 ghost use lib.ListN.{length};
 ghost use Rattle.positions.specs.Positions.{one};
 ghost use Rattle.range_bitset.specs.Answers.{ofCounted};
 ghost use Rattle.range_bitset.specs.declared.Counted.the-variants as counted;
 ghost use Rattle.ledger.specs.Machine.{Range, Back, Wipe, point};
-ghost use Rattle.ledger.specs.Memory.{memory, goodLedger, lentEnough, lentRefusal, wipeRefusal, callRefusal};
+ghost use Rattle.ledger.specs.Memory.{memory, goodLedger, lentEnough, lentRefusal, wipeRefusal};
 ghost use Rattle.ledger.specs.Entries.{Called as CallEnsures, newOf, OpenEnsures};
 ghost use Rattle.ledger.specs.Inner.{Finds, RunsFit, CountsRuns, WritesCall, WritesRuns, readRuns, AssignsRuns, OpensRuns, lastOf, placeIn, countIn};
 use range_bitset::Counted;

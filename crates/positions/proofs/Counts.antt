@@ -1,7 +1,7 @@
 -- Laws of `countFrom` and `count`, how many positions of a range a set has: those of `sumOver` at 1, and what holds of
 -- counts alone. Assumes nothing.
 use mathlib.Core.Path.{_≡_, refl, sym, ap, _∙_}
-use mathlib.Core.Bool.{Bool, true, false, not}
+use mathlib.Core.Bool.{Bool, true, false}
 use Prim.Native.Nat.{ℕ, zero, suc, _+_, _-_, _*_, _≤_, _<_}
 use native.Mathlib.Nat.{le-refl, mul-one, not-suc-le-zero, one-mul, zero-mul}
 use native.Mathlib.Omega.{arith}
@@ -38,10 +38,6 @@ module _ (s : ℕ → Bool) where
   pub countFrom-all : (a n : ℕ) → ((i : ℕ) → a ≤ i → i < a + n → s i ≡ true) → countFrom s a n ≡ n
   unfolding countFrom sumOver
   countFrom-all a n h = T.total-const (λ i. kept (s i) 1) 1 a n (λ i l k. ap (λ (b : Bool). kept b 1) (h i l k)) ∙ mul-one n
-
-  one-or-not : (b : Bool) → kept b 1 + kept (not b) 1 ≡ 1
-  one-or-not true = refl
-  one-or-not false = refl
 
   none-kept : (b : Bool) → kept b 1 ≤ 0 → b ≡ false
   none-kept true h = absurd (not-suc-le-zero h)

@@ -1,7 +1,7 @@
 -- The laws of `total`, a sum over a range. Assumes nothing.
 use mathlib.Core.Path.{_≡_, refl, sym, ap, ap₂, _∙_}
 use Prim.Native.Nat.{ℕ, zero, suc, _+_, _-_, _*_, _≤_, _<_, zero-le}
-use native.Mathlib.Nat.{add-zero, add-suc, suc-add, zero-add, add-assoc, add-comm, add-le-add, add-mul, le-refl, mul-suc, mul-zero, suc-mul, zero-mul}
+use native.Mathlib.Nat.{add-zero, add-suc, suc-add, zero-add, add-assoc, add-comm, add-le-add, add-mul, le-refl, suc-mul, zero-mul}
 use native.Mathlib.Numerals.{add-one}
 use native.Mathlib.Omega.{arith}
 use Rattle.positions.specs.Positions.{total}
@@ -63,14 +63,6 @@ module _ (f g : ℕ → ℕ) where
   unfolding total
   total-plus a zero = refl
   total-plus a (suc n) = rw (total-plus (suc a) n) (omega arith)
-
--- rows of w terms each
-pub total-rows : (f : ℕ → ℕ) (w a m : ℕ) → total (λ k. total f (w * k) w) a m ≡ total f (w * a) (w * m)
-unfolding total
-total-rows f w a zero = sym (ap (total f (w * a)) (mul-zero w))
-total-rows f w a (suc m) =
-    ap (λ (x : ℕ). total f (w * a) w + x) (total-rows f w (suc a) m ∙ ap (λ (x : ℕ). total f x (w * m)) (mul-suc w a))
-    ∙ sym (total-add f (w * a) w (w * m)) ∙ ap (total f (w * a)) (add-comm w (w * m) ∙ sym (mul-suc w m))
 
 -- one term, and those before and after it
 pub total-split : (f : ℕ → ℕ) (a n i : ℕ) → a ≤ i → i < a + n → total f a n ≡ total f a (i - a) + (f i + total f (suc i) (n - suc (i - a)))

@@ -1,31 +1,22 @@
--- Laws of a file's list of runs: its length, its run at an index, one run more, the set that the runs give when assigned
+-- Laws of a file's list of runs: its length, one run more, the set that the runs give when assigned
 -- one after the other, and that a good file's runs are the longest stretches of its set. Assumes nothing.
 use mathlib.Core.Path.{_≡_, refl, sym, ap, _∙_, fun-ext}
 use mathlib.Core.Bool.{Bool, true, false, cond}
 use mathlib.Core.List.{List, [], _∷_, _++_}
-use Prim.Native.Nat.{ℕ, zero, suc, _+_, _<_}
+use Prim.Native.Nat.{ℕ, zero, suc, _+_}
 use native.Mathlib.Nat.{add-zero, zero-add, add-suc, suc-add}
 use native.Mathlib.Omega.{arith}
-use lib.ListN.{length, getD}
+use lib.ListN.{length}
 use Rattle.positions.specs.Positions.{Positions, none, assigned, count}
 use Rattle.positions.specs.Runs.{Run, runs, assignedRuns, covered, lengths}
+use Rattle.positions.proofs.Changes.{assignedRuns-then}
 use Rattle.positions.proofs.Runs.{runs-only, assignedRuns-at, count-covered}
-use Rattle.saved_list.specs.Format.{savedCount, savedCapacity, runAt, runsAfter, savedRuns, Good, savedPositions}
+use Rattle.saved_list.specs.Format.{savedCapacity, runAt, runsAfter, savedRuns, Good, savedPositions}
 
 pub runs-length : (bytes : List ℕ) (i n : ℕ) → length (runsAfter bytes i n) ≡ n
 unfolding runsAfter
 runs-length bytes i zero = refl
 runs-length bytes i (suc n) = ap suc (runs-length bytes (suc i) n)
-
-pub runs-at : (bytes : List ℕ) (i n k : ℕ) (d : Run) → k < n → getD (runsAfter bytes i n) k d ≡ runAt bytes (i + k)
-unfolding runsAfter
-runs-at bytes i zero k d h = absurd (omega arith)
-runs-at bytes i (suc n) zero d h = rw (add-zero i)
-runs-at bytes i (suc n) (suc k) d h = rw (add-suc i k, ← suc-add i k) (runs-at bytes (suc i) n k d (omega arith))
-
-pub saved-run : (bytes : List ℕ) (k : ℕ) (d : Run) → k < savedCount bytes → getD (savedRuns bytes) k d ≡ runAt bytes k
-unfolding savedRuns
-saved-run bytes k d h = runs-at bytes 0 (savedCount bytes) k d h ∙ ap (runAt bytes) (zero-add k)
 
 -- the list with one run more
 pub runs-more : (bytes : List ℕ) (i n : ℕ) → runsAfter bytes i (suc n) ≡ runsAfter bytes i n ++ (runAt bytes (i + n) ∷ [])
@@ -35,16 +26,11 @@ runs-more bytes i (suc n) = rw (add-suc i n, ← suc-add i n) (ap (λ (l : List 
 
 -- ---- the runs assigned in order, as opening does
 
-pub assigned-last : (s : Positions) (rs : List Run) (r : Run) (v : Bool)
-    → assignedRuns s (rs ++ (r ∷ [])) v ≡ assigned (assignedRuns s rs v) (r .start) (r .end) v
-assigned-last s [] r v = refl
-assigned-last s (u ∷ rs) r v = assigned-last (assigned s (u .start) (u .end) v) rs r v
-
 -- the run of index n assigned after those before it
 pub assigned-more : (s : Positions) (bytes : List ℕ) (n : ℕ) (v : Bool)
     → assignedRuns s (runsAfter bytes 0 (suc n)) v
     ≡ assigned (assignedRuns s (runsAfter bytes 0 n) v) (runAt bytes n .start) (runAt bytes n .end) v
-assigned-more s bytes n v = rw (runs-more bytes 0 n, zero-add n) (assigned-last s (runsAfter bytes 0 n) (runAt bytes n) v)
+assigned-more s bytes n v = rw (runs-more bytes 0 n, zero-add n) (assignedRuns-then s (runsAfter bytes 0 n) (runAt bytes n) v)
 
 -- all runs marked on the empty set give the file's set
 pub all-assigned : (bytes : List ℕ) → assignedRuns none (savedRuns bytes) true ≡ savedPositions bytes
