@@ -3,9 +3,9 @@
 --     lends-head      the local is lent for a lifetime ν that is made for the call
 --     head-back       ν is ended, and the local is back at the head that the callee left
 -- The facts of a value's parts assume nothing. The rest takes `Given`.
-use Rattle.saved_list.proofs.OneCall.{refl, ap, subst, _≡_, ℕ, List, [], _∷_, length, URA, fullShare, named, Val, vptr, ent, sep, GName, Lft, Share, Fml, fsep, flft, flent, fobs, fauth, fres, fobor, fat, Heap, Atoms, sem}
-use Rattle.saved_list.proofs.OneCall.{Given, Item, Goal, Soaks, Seq, Step, ‵, _⊛_, some, later, _$_, _∵_, !, qed, move, drop, use1, use3, split, join, pick, fsplit, fsplit3, fpick, fpack, fjoin, fjoin3, feqI, frame, await, done}
-use Rattle.saved_list.proofs.OneCall.{Body, RattleType, owns, Is, shows, mem, cellAt, partAt, u32, u64, RefT, MutRef, sliceVal, MutSlice, ShrSlice, shr-slice-copy, only, opens, closes, owned, peeks}
+use Rattle.saved_list.proofs.OneCallee.{refl, ap, subst, _≡_, ℕ, List, [], _∷_, length, URA, fullShare, named, Val, vptr, ent, sep, GName, Lft, Share, Fml, fsep, flft, flent, fobs, fauth, fres, fobor, fat, Heap, Atoms, sem}
+use Rattle.saved_list.proofs.OneCallee.{Given, Item, Goal, Soaks, Seq, Step, ‵, _⊛_, some, later, _$_, _∵_, !, qed, move, drop, use1, use3, split, join, pick, fsplit, fsplit3, fpick, fpack, fjoin, fjoin3, feqI, frame, await, done}
+use Rattle.saved_list.proofs.OneCallee.{Body, RattleType, owns, Is, shows, mem, cellAt, partAt, u32, u64, RefT, MutRef, sliceVal, MutSlice, ShrSlice, shr-slice-copy, only, opens, closes, owned, peeks}
 use lib.Dec.{T as Holds}
 use mir.Val.{hasTy, WT}
 use base.Stored.{Gv}

@@ -1,10 +1,10 @@
 -- `ledger_lent::mark_through` meets its contract: a walk of its MIR, by hand. The head is laid in a local, which is lent to `mark_lent` for a lifetime that is made for the call; the lifetime is ended, and the local is back at the head that the call left.
 -- All that the proof knows of `mark_lent` is that it meets its contract.
 -- Assumes nothing.
-use Rattle.saved_list.proofs.OneCall.{_≡_, refl, ℕ, _<_, _^_, List, [], _∷_, Bool, length, URA, fullShare, named, w64, Val, vint, vbool, vptr, SProp, ent, id⊢, GName, Lft, Share, ftrue, flft, Memory, Routine, Heap, Calls, Loops, WpFn, Atoms, Fun}
-use Rattle.saved_list.proofs.OneCall.{Given, Item, ‵, raw, _⊛_, ⋆, _$_, _∵_, !, qed, by, move, keep, drop, use2, rewrite, fsplit, fjoin, suffices, frame, done, look, init, forget, stop, hop, fld, from, load, addr, of-opd, and-then, no-more, land, assigns, returns, enter, alloc1, alloc0, params1, pass1, pass0, free1, free0, agg, whole, sub, look-in}
-use Rattle.saved_list.proofs.OneCall.{FmC, owns, Is, uint-vals, uint-tells, bool-vals, bool-tells, bool-makes, u32, u64, usize, bool, RefT, MutSlice, Room, slice-vals, mut-slice-tells, finally, plain, owned, nothing, Contract, Triple, calls-at, onEntry, tripleOf, says, Stays, gave-slice, stay-none, walkOf, goes-none, goes-gave-slice, ends-at, lasts, yes, givenOf}
-use Rattle.saved_list.proofs.OneCall.{one-call, asks, tells, last-list, owns-usize}
+use Rattle.saved_list.proofs.OneCallee.{_≡_, refl, ℕ, _<_, _^_, List, [], _∷_, Bool, length, URA, fullShare, named, w64, Val, vint, vbool, vptr, SProp, ent, id⊢, GName, Lft, Share, ftrue, flft, Memory, Routine, Heap, Calls, Loops, WpFn, Atoms, Fun}
+use Rattle.saved_list.proofs.OneCallee.{Given, Item, ‵, raw, _⊛_, ⋆, _$_, _∵_, !, qed, by, move, keep, drop, use2, rewrite, fsplit, fjoin, suffices, frame, done, look, init, forget, stop, hop, fld, from, load, addr, of-opd, and-then, no-more, land, assigns, returns, enter, alloc1, alloc0, params1, pass1, pass0, free1, free0, agg, whole, sub, look-in}
+use Rattle.saved_list.proofs.OneCallee.{FmC, owns, Is, uint-vals, uint-tells, bool-vals, bool-tells, bool-makes, u32, u64, usize, bool, RefT, MutSlice, Room, slice-vals, mut-slice-tells, finally, plain, owned, nothing, Contract, Triple, calls-at, onEntry, tripleOf, says, Stays, gave-slice, stay-none, walkOf, goes-none, goes-gave-slice, ends-at, lasts, yes, givenOf}
+use Rattle.saved_list.proofs.OneCallee.{one-callee, asks, tells, last-list, owns-usize}
 use Rattle.range_bitset.specs.Answers.{ofCounted}
 use Rattle.ledger.specs.Machine.{Range}
 use Rattle.ledger.specs.Memory.{memory}
@@ -89,7 +89,7 @@ pub mark-through-spec : {M : Type 1} → stated.statement M
 unfolding code.routine
 mark-through-spec 𝓤 H 𝓜 𝓖 𝓡 =
     let W : Given 𝓤 H (𝓖 .A) = givenOf 𝓤 H 𝓜 𝓖 in
-    one-call 𝓤 H 𝓜 𝓖 𝓡 f.ended stayed (f.clauses 𝓤 H (𝓖 .A) (𝓜 .mem) (𝓡 .run)) code.function code.env #this (code.unfolded 𝓤 H 𝓜 𝓡)
+    one-callee 𝓤 H 𝓜 𝓖 𝓡 f.ended stayed (f.clauses 𝓤 H (𝓖 .A) (𝓜 .mem) (𝓡 .run)) code.function code.env #this (code.unfolded 𝓤 H 𝓜 𝓡)
     #core (Core 𝓤 H (𝓖 .A) (𝓜 .mem) (𝓡 .run)) core-def.routine code.calls-ledger-lent·mark-lent (core-thm.met 𝓤 H 𝓜 𝓖 𝓡)
     (goes-none 𝓤 H (𝓖 .A) W 2 (λ _. headRow) yes (λ κs x f. refl), (goes-gave-slice 𝓤 H (𝓖 .A) W 2 0 tt (plain (λ _. u64)), (goes-gave-slice 𝓤 H (𝓖 .A) W 2 1 tt (plain (λ _. u32)), (goes-none 𝓤 H (𝓖 .A) W 2 (λ _. usize) yes (λ κs x f. refl), (goes-none 𝓤 H (𝓖 .A) W 2 (λ _. usize) yes (λ κs x f. refl), (goes-none 𝓤 H (𝓖 .A) W 2 (λ _. bool) yes (λ κs x f. refl), tt))))))
     (λ κs. (headVals, (slice-vals, (slice-vals, (uint-vals w64, (uint-vals w64, (bool-vals, tt)))))))

@@ -1,10 +1,10 @@
 -- `ledger_lent::take_back_lent` meets its contract: a walk of its MIR, by hand, as of `wipe_lent`, with the journal as a shared slice: what it owns is had twice, and one copy is kept for the exit.
 -- All that the proof knows of the core is that it meets its contract.
 -- Assumes nothing.
-use Rattle.saved_list.proofs.OneCall.{_≡_, refl, ℕ, List, [], _∷_, length, URA, named, Val, vptr, SProp, ent, id⊢, GName, Lft, Share, Fml, ftrue, flft, Memory, Routine, Heap, Calls, Loops, WpFn, Atoms, Fun}
-use Rattle.saved_list.proofs.OneCall.{Given, Item, ‵, raw, _⊛_, ⋆, _$_, _∵_, !, qed, by, move, keep, drop, use1, use2, split, join, rewrite, fsplit, fjoin, suffices, frame, done, look, look-raw, init, store-raw, forget, stop, hop, fld, from, load, addr, of-opd, and-then, no-more, land, assigns, returns, enter, alloc1, alloc0, params1, pass1, pass0, free1, free0, agg, whole, sub, look-in}
-use Rattle.saved_list.proofs.OneCall.{FmC, owns, Is, u32, u64, RefT, MutRef, ptr-vals, mut-tells, MutSlice, ShrSlice, Room, slice-vals, mut-slice-tells, shr-slice-tells, shr-slice-lawful, finally, plain, nothing, Contract, Triple, calls-at, onEntry, tripleOf, says, Stays, stay-ref, gave-slice, stay-none-slice, walkOf, goes-ref, goes-none-slice, goes-gave-slice, ends-at, lasts, yes, givenOf}
-use Rattle.saved_list.proofs.OneCall.{one-call, asks, tells, last-list}
+use Rattle.saved_list.proofs.OneCallee.{_≡_, refl, ℕ, List, [], _∷_, length, URA, named, Val, vptr, SProp, ent, id⊢, GName, Lft, Share, Fml, ftrue, flft, Memory, Routine, Heap, Calls, Loops, WpFn, Atoms, Fun}
+use Rattle.saved_list.proofs.OneCallee.{Given, Item, ‵, raw, _⊛_, ⋆, _$_, _∵_, !, qed, by, move, keep, drop, use1, use2, split, join, rewrite, fsplit, fjoin, suffices, frame, done, look, look-raw, init, store-raw, forget, stop, hop, fld, from, load, addr, of-opd, and-then, no-more, land, assigns, returns, enter, alloc1, alloc0, params1, pass1, pass0, free1, free0, agg, whole, sub, look-in}
+use Rattle.saved_list.proofs.OneCallee.{FmC, owns, Is, u32, u64, RefT, MutRef, ptr-vals, mut-tells, MutSlice, ShrSlice, Room, slice-vals, mut-slice-tells, shr-slice-tells, shr-slice-lawful, finally, plain, nothing, Contract, Triple, calls-at, onEntry, tripleOf, says, Stays, stay-ref, gave-slice, stay-none-slice, walkOf, goes-ref, goes-none-slice, goes-gave-slice, ends-at, lasts, yes, givenOf}
+use Rattle.saved_list.proofs.OneCallee.{one-callee, asks, tells, last-list}
 use Rattle.range_bitset.specs.Answers.{ofCounted}
 use Rattle.ledger.specs.Machine.{Back}
 use Rattle.ledger.specs.Memory.{memory}
@@ -92,7 +92,7 @@ pub take-back-lent-spec : {M : Type 1} → stated.statement M
 unfolding code.routine
 take-back-lent-spec 𝓤 H 𝓜 𝓖 𝓡 =
     let W : Given 𝓤 H (𝓖 .A) = givenOf 𝓤 H 𝓜 𝓖 in
-    one-call 𝓤 H 𝓜 𝓖 𝓡 f.ended stayed (f.clauses 𝓤 H (𝓖 .A) (𝓜 .mem) (𝓡 .run)) code.function code.env #this (code.unfolded 𝓤 H 𝓜 𝓡)
+    one-callee 𝓤 H 𝓜 𝓖 𝓡 f.ended stayed (f.clauses 𝓤 H (𝓖 .A) (𝓜 .mem) (𝓡 .run)) code.function code.env #this (code.unfolded 𝓤 H 𝓜 𝓡)
     #core (Core 𝓤 H (𝓖 .A) (𝓜 .mem) (𝓡 .run)) core-def.routine code.calls-ledger·Ledger·take-back (core-thm.met 𝓤 H 𝓜 𝓖 𝓡)
     (goes-ref 𝓤 H (𝓖 .A) W 3 0 tt (plain (λ _. headRow)), (goes-gave-slice 𝓤 H (𝓖 .A) W 3 1 tt (plain (λ _. u64)), (goes-none-slice 𝓤 H (𝓖 .A) W 3 (2 ∷ []) tt (plain (λ _. u32)) yes, tt)))
     (λ κs. (ptr-vals, (slice-vals, (slice-vals, tt))))

@@ -1,10 +1,10 @@
 -- `ledger_lent::take_back_through` meets its contract: a walk of its MIR, by hand. The head is laid in a local, which is lent to `take_back_lent` for a lifetime that is made for the call; the lifetime is ended, and the local is back at the head that the call left.
 -- What the journal owns is had twice, since it is lent by `&`: one copy is kept for the exit. All that the proof knows of `take_back_lent` is that it meets its contract.
 -- Assumes nothing.
-use Rattle.saved_list.proofs.OneCall.{_≡_, refl, ℕ, List, [], _∷_, length, URA, fullShare, named, Val, vptr, SProp, ent, id⊢, GName, Lft, Share, Fml, ftrue, flft, Memory, Routine, Heap, Calls, Loops, WpFn, Atoms, Fun}
-use Rattle.saved_list.proofs.OneCall.{Given, Item, ‵, raw, _⊛_, ⋆, _$_, _∵_, !, qed, by, move, keep, drop, use1, use2, split, rewrite, fsplit, fjoin, suffices, frame, done, look, init, forget, stop, hop, fld, from, load, addr, of-opd, and-then, no-more, land, assigns, returns, enter, alloc1, alloc0, params1, pass1, pass0, free1, free0, agg, whole, sub, look-in}
-use Rattle.saved_list.proofs.OneCall.{FmC, owns, Is, u32, u64, RefT, MutSlice, ShrSlice, Room, slice-vals, mut-slice-tells, shr-slice-tells, shr-slice-lawful, finally, plain, nothing, Contract, Triple, calls-at, onEntry, tripleOf, says, Stays, gave-slice, stay-none, stay-none-slice, walkOf, goes-none, goes-none-slice, goes-gave-slice, ends-at, lasts, yes, givenOf}
-use Rattle.saved_list.proofs.OneCall.{one-call, asks, tells, last-list}
+use Rattle.saved_list.proofs.OneCallee.{_≡_, refl, ℕ, List, [], _∷_, length, URA, fullShare, named, Val, vptr, SProp, ent, id⊢, GName, Lft, Share, Fml, ftrue, flft, Memory, Routine, Heap, Calls, Loops, WpFn, Atoms, Fun}
+use Rattle.saved_list.proofs.OneCallee.{Given, Item, ‵, raw, _⊛_, ⋆, _$_, _∵_, !, qed, by, move, keep, drop, use1, use2, split, rewrite, fsplit, fjoin, suffices, frame, done, look, init, forget, stop, hop, fld, from, load, addr, of-opd, and-then, no-more, land, assigns, returns, enter, alloc1, alloc0, params1, pass1, pass0, free1, free0, agg, whole, sub, look-in}
+use Rattle.saved_list.proofs.OneCallee.{FmC, owns, Is, u32, u64, RefT, MutSlice, ShrSlice, Room, slice-vals, mut-slice-tells, shr-slice-tells, shr-slice-lawful, finally, plain, nothing, Contract, Triple, calls-at, onEntry, tripleOf, says, Stays, gave-slice, stay-none, stay-none-slice, walkOf, goes-none, goes-none-slice, goes-gave-slice, ends-at, lasts, yes, givenOf}
+use Rattle.saved_list.proofs.OneCallee.{one-callee, asks, tells, last-list}
 use Rattle.range_bitset.specs.Answers.{ofCounted}
 use Rattle.ledger.specs.Machine.{Back}
 use Rattle.ledger.specs.Memory.{memory}
@@ -91,7 +91,7 @@ pub take-back-through-spec : {M : Type 1} → stated.statement M
 unfolding code.routine
 take-back-through-spec 𝓤 H 𝓜 𝓖 𝓡 =
     let W : Given 𝓤 H (𝓖 .A) = givenOf 𝓤 H 𝓜 𝓖 in
-    one-call 𝓤 H 𝓜 𝓖 𝓡 f.ended stayed (f.clauses 𝓤 H (𝓖 .A) (𝓜 .mem) (𝓡 .run)) code.function code.env #this (code.unfolded 𝓤 H 𝓜 𝓡)
+    one-callee 𝓤 H 𝓜 𝓖 𝓡 f.ended stayed (f.clauses 𝓤 H (𝓖 .A) (𝓜 .mem) (𝓡 .run)) code.function code.env #this (code.unfolded 𝓤 H 𝓜 𝓡)
     #core (Core 𝓤 H (𝓖 .A) (𝓜 .mem) (𝓡 .run)) core-def.routine code.calls-ledger-lent·take-back-lent (core-thm.met 𝓤 H 𝓜 𝓖 𝓡)
     (goes-none 𝓤 H (𝓖 .A) W 2 (λ _. headRow) yes (λ κs x f. refl), (goes-gave-slice 𝓤 H (𝓖 .A) W 2 0 tt (plain (λ _. u64)), (goes-none-slice 𝓤 H (𝓖 .A) W 2 (1 ∷ []) tt (plain (λ _. u32)) yes, tt)))
     (λ κs. (headVals, (slice-vals, (slice-vals, tt))))

@@ -1,10 +1,10 @@
 -- `saved_list::step` meets its contract: a walk of its MIR, by hand. The borrow of the struct is opened, the slice and the index are read and passed to `step_at`, the index that it returned is stored, the borrow is closed at the new record, and the run is returned.
 -- What the struct owns can be had twice, since it holds a `&`: one copy goes to the callee, and the other closes the borrow. All that the proof knows of `step_at` is that it meets its contract.
 -- Assumes nothing.
-use Rattle.saved_list.proofs.OneCall.{_≡_, refl, ap, ℕ, _<_, _^_, List, [], _∷_, length, URA, fullShare, named, w64, Val, vint, vptr, SProp, ent, sep, id⊢, GName, Lft, Share, Fml, ftrue, flft, fat, Memory, Routine, Heap, Calls, Loops, WpFn, Atoms, sem, Fun}
-use Rattle.saved_list.proofs.OneCall.{Given, ‵, raw, _⊛_, ⋆, _$_, _∵_, !, qed, by, move, keep, drop, use1, use2, split, join, rewrite, fjoin, suffices, frame, done, look, init, forget, stop, hop, fld, from, load, of-opd, and-then, no-more, land, assigns, returns, enter, alloc1, alloc0, params1, pass1, pass0, free1, free0, whole, sub, look-in, store-in}
-use Rattle.saved_list.proofs.OneCall.{FmC, RattleType, owns, Is, shows, RefT, MutRef, now, ptr-vals, mut-tells, sliceVal, ShrSlice, u8, Slot, plain, namedLft, only, owned, peeks, nothing, Contract, Triple, calls-at, Vals, onEntry, tripleOf, says, Stays, stay-ref, walkOf, goes-ref, ends-at, lasts, givenOf}
-use Rattle.saved_list.proofs.OneCall.{one-call, asks, tells, owns-usize}
+use Rattle.saved_list.proofs.OneCallee.{_≡_, refl, ap, ℕ, _<_, _^_, List, [], _∷_, length, URA, fullShare, named, w64, Val, vint, vptr, SProp, ent, sep, id⊢, GName, Lft, Share, Fml, ftrue, flft, fat, Memory, Routine, Heap, Calls, Loops, WpFn, Atoms, sem, Fun}
+use Rattle.saved_list.proofs.OneCallee.{Given, ‵, raw, _⊛_, ⋆, _$_, _∵_, !, qed, by, move, keep, drop, use1, use2, split, join, rewrite, fjoin, suffices, frame, done, look, init, forget, stop, hop, fld, from, load, of-opd, and-then, no-more, land, assigns, returns, enter, alloc1, alloc0, params1, pass1, pass0, free1, free0, whole, sub, look-in, store-in}
+use Rattle.saved_list.proofs.OneCallee.{FmC, RattleType, owns, Is, shows, RefT, MutRef, now, ptr-vals, mut-tells, sliceVal, ShrSlice, u8, Slot, plain, namedLft, only, owned, peeks, nothing, Contract, Triple, calls-at, Vals, onEntry, tripleOf, says, Stays, stay-ref, walkOf, goes-ref, ends-at, lasts, givenOf}
+use Rattle.saved_list.proofs.OneCallee.{one-callee, asks, tells, owns-usize}
 use contract.Lifetimes.{AllOutlive}
 use denote.Struct.Laws as LL
 use denote.Enum.Laws as EL
@@ -108,7 +108,7 @@ pub step-spec : {M : Type 1} → stated.statement M
 unfolding code.routine
 step-spec 𝓤 H 𝓜 𝓖 𝓡 =
     let W : Given 𝓤 H (𝓖 .A) = givenOf 𝓤 H 𝓜 𝓖 in
-    one-call 𝓤 H 𝓜 𝓖 𝓡 f.ended stayed (f.clauses 𝓤 H (𝓖 .A) (𝓜 .mem) (𝓡 .run)) code.function code.env #this (code.unfolded 𝓤 H 𝓜 𝓡)
+    one-callee 𝓤 H 𝓜 𝓖 𝓡 f.ended stayed (f.clauses 𝓤 H (𝓖 .A) (𝓜 .mem) (𝓡 .run)) code.function code.env #this (code.unfolded 𝓤 H 𝓜 𝓡)
     #callee (StepAt 𝓤 H (𝓖 .A) (𝓜 .mem) (𝓡 .run)) step-def.routine code.calls-saved-list·step-at (step-thm.met 𝓤 H 𝓜 𝓖 𝓡)
     (goes-ref 𝓤 H (𝓖 .A) W 2 0 tt behind, tt) (λ κs. (ptr-vals, tt)) (λ κs. (mut-tells (named 0) (κs .0) (B (κs .1 .0)), tt))
     (λ C Λ fm known κs qs bounds a g are. walk 𝓤 H (𝓖 .A) W (𝓜 .mem) (𝓡 .run) (κs .0) (κs .1 .0) (qs .0) (qs .1 .0) bounds (a .0 .ptr .0) (a .0 .ptr .1) (a .0 .name) (a .0 .now) C Λ fm known)

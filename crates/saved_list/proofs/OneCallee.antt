@@ -1,5 +1,5 @@
--- A function that makes one call, proved by hand: what such a proof says whatever the function is about. The names of the logic that a walk is written in are passed on, so that a walk takes them from one place.
---     one-call     a walk from the parameters to the exit proves the function, where the callee meets its contract and the proof says what is had of each parameter at exit
+-- A function that calls one other, proved by hand: what such a proof says whatever the function is about. The names of the logic that a walk is written in are passed on, so that a walk takes them from one place.
+--     one-callee   a walk from the parameters to the exit proves the function, where the callee meets its contract and the proof says what is had of each parameter at exit
 --     asks         a callee with no `requires` asks what its parameters own, beside the tokens
 --     tells        once the call has returned: the result, the parameters' last values, and the fact that is ensured of both
 --     last-list    of a `&mut [T]` that was given to the callee: its last list is as long as the list passed
@@ -72,7 +72,7 @@ module _ {M : Type 1} (𝓤 : URA M) (H : Heap 𝓤) (𝓜 : Model 𝓤 H) (𝓖
   abbrev Types : Lfts (T .signature .lifetimes) → List RattleType
   Types κs = typesAt (T .signature .params) κs
 
-  pub one-call : (k : Name) → Closed 𝓤 H (tables 𝓤 H 𝓜 𝓡 γ .C) (tables 𝓤 H 𝓜 𝓡 γ .Λ) k fn → (callee : Name) (K : Contract 𝓤) (r : Routine) → γ callee ≡ r → Triple 𝓤 (𝓡 .run r) K
+  pub one-callee : (k : Name) → Closed 𝓤 H (tables 𝓤 H 𝓜 𝓡 γ .C) (tables 𝓤 H 𝓜 𝓡 γ .Λ) k fn → (callee : Name) (K : Contract 𝓤) (r : Routine) → γ callee ≡ r → Triple 𝓤 (𝓡 .run r) K
       → AllGo 𝓤 H (𝓖 .A) W (T .signature .lifetimes) (T .signature .params) (T .kept) hs
       → (sp : (κs : Lfts (T .signature .lifetimes)) → Spells (Types κs)) → ((κs : Lfts (T .signature .lifetimes)) → Tellss (Types κs) (Ises (Types κs)) (sp κs))
       → ((C : Calls 𝓤 H) (Λ : Loops 𝓤 H) → FmC 𝓤 H (W .laws) C → Triple 𝓤 (C callee) K
@@ -81,7 +81,7 @@ module _ {M : Type 1} (𝓤 : URA M) (H : Heap 𝓤) (𝓜 : Model 𝓤 H) (𝓖
       → ent 𝓤 (onEntry 𝓤 H (𝓖 .A) (T .signature) κs qs a (valss (Types κs) (sp κs) a)) (WpFn 𝓤 H C Λ fn (flat (Types κs) (valss (Types κs) (sp κs) a)) (walkOf 𝓤 H (𝓖 .A) T hs c .post ((κs, qs, bounds, a, valss (Types κs) (sp κs) a), g))))
       → Triple 𝓤 (𝓡 .run (γ k)) (tripleOf 𝓤 H (𝓖 .A) (T .signature) (closing 𝓤 H (𝓖 .A) T c))
   unfolding tablesOf
-  one-call k closed callee K r is met gs sp tl walk =
+  one-callee k closed callee K r is met gs sp tl walk =
       let 𝓣 : Tables 𝓤 H = tablesOf 𝓤 H 𝓜 (tables 𝓤 H 𝓜 𝓡 γ) in
       entered 𝓤 H (tripleOf 𝓤 H (𝓖 .A) (T .signature) (closing 𝓤 H (𝓖 .A) T c)) (tables 𝓤 H 𝓜 𝓡 γ .C) (tables 𝓤 H 𝓜 𝓡 γ .Λ) k fn closed
       (walk-meets 𝓤 H (𝓖 .A) T hs W gs c (WpFn 𝓤 H (𝓣 .C) (𝓣 .Λ) fn) (WpFn-mono 𝓤 H (W .laws) 𝓣 fn)
