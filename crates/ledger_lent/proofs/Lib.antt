@@ -1,3 +1,3 @@
--- The laws of the lent forms. Assumes nothing.
+-- The laws of the lent forms: Forms, that both forms have one promise, and Heads, what the proofs by hand share. Assumes nothing.
 pub mod Forms
 pub mod Heads

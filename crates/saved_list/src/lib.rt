@@ -216,11 +216,26 @@ pub fn step<'s, 'a>(r: &'s mut Runs<'a>) -> FoundRun
     out.run
 }
 
-// A reader made in a local and lent to one step, behind plain parameters, so that covered code can run it.
-pub fn step_through(file: &[u8], index: usize) -> Stepped
-    ensures { λ r. ⌜ (foundAnswer (r .run) ≡ foundOf (now (file .entry)) index) × (r .at ≡ indexAfter (now (file .entry)) index) ⌝ }
+// Two runs in turn, and the index that follows them.
+pub struct TwoRuns {
+    pub first: FoundRun,
+    pub second: FoundRun,
+    pub at: usize,
+}
+
+// The run of an index and the one after it: one reader in a local, lent to two steps, the second from where the first left
+// it. It has plain parameters, so that covered code can run it.
+pub fn two_steps(file: &[u8], index: usize) -> TwoRuns
+    ensures { λ r. ⌜ (foundAnswer (r .first) ≡ foundOf (now (file .entry)) index)
+        × (foundAnswer (r .second) ≡ foundOf (now (file .entry)) (indexAfter (now (file .entry)) index))
+        × (r .at ≡ indexAfter (now (file .entry)) (indexAfter (now (file .entry)) index)) ⌝ }
 {
     let mut reader = Runs { file, at: index };
-    let run = step(&mut reader);
-    Stepped { run, at: reader.at }
+    let first = step(&mut reader);
+    let second = step(&mut reader);
+    TwoRuns {
+        first,
+        second,
+        at: reader.at,
+    }
 }
