@@ -3,4 +3,4 @@
 pub mod Lines
 pub mod Answers
 pub mod Input
-pub mod Reading
+pub mod Inner

@@ -1,12 +1,12 @@
-// `sheetmark`: reads commands, one a line, and prints one answer a line. A thin loop over proved parts: what a line means and
-// what is printed are command_lines', what a command does is the ledger's. Memory is fixed: a line buffer, one input and one
-// output buffer, the largest set's storage and the longest journal. Assumes that the kit's read and write do what they say.
+// `sheetmark`: reads commands, one a line, and prints one answer a line. What a line means and what is printed are
+// command_lines', what a command does is the ledger's. Memory is fixed: a line buffer, one input and one output buffer, the
+// largest set's storage and the longest journal. Assumes that the kit's read and write do what they say.
 ghost use mathlib.Core.Path.{_≡_};
 ghost use mathlib.Core.Bool.{true, false};
 ghost use lib.ListN.{length};
-ghost use Rattle.range_bitset.specs.Answers.{ofCounted};
+ghost use Rattle.range_bitset.specs.Answers.{ofCounted, ofPlace};
 ghost use Rattle.ledger.specs.Memory.{memory};
-ghost use Rattle.sheetmark.specs.Performing.{Performs, Starts, replyOf, foundReply};
+ghost use Rattle.sheetmark.specs.Performing.{Performs, Starts, answerOf, cut};
 ghost use Rattle.ledger.specs.Entries.{newOf};
 use command_lines::Answer;
 use command_lines::Command;
@@ -25,7 +25,7 @@ pub struct Performed {
 }
 
 fn of_counted(counted: Counted) -> Answer
-    ensures { λ r. ⌜ replyOf r ≡ ofCounted counted ⌝ }
+    ensures { λ r. ⌜ r ≡ answerOf (ofCounted counted) ⌝ }
 {
     match counted {
         Counted::Count(n) => Answer::Number(n),
@@ -35,7 +35,7 @@ fn of_counted(counted: Counted) -> Answer
 
 // A position is below the capacity, so that 32 bits hold it; any other number is cut to them.
 fn of_found(found: Found) -> Answer
-    ensures { λ r. ⌜ replyOf r ≡ foundReply found ⌝ }
+    ensures { λ r. ⌜ r ≡ answerOf (cut (ofPlace found)) ⌝ }
 {
     match found {
         Found::At(i) => Answer::Number((i % 0x1_0000_0000) as u32),
@@ -45,7 +45,7 @@ fn of_found(found: Found) -> Answer
 }
 
 fn called(done: Called) -> Performed
-    ensures { λ r. ⌜ (replyOf (r .answer) ≡ ofCounted (done .answer)) × (r .head ≡ done .head) × (r .live ≡ true) ⌝ }
+    ensures { λ r. ⌜ (r .answer ≡ answerOf (ofCounted (done .answer))) × (r .head ≡ done .head) × (r .live ≡ true) ⌝ }
 {
     let answer = done.answer;
     let head = done.head;
@@ -57,7 +57,7 @@ fn called(done: Called) -> Performed
 }
 
 // `new`: a fresh ledger, or the present one kept.
-fn start(
+fn new_ledger(
     head: Ledger,
     live: bool,
     storage: &[u64],
@@ -97,7 +97,14 @@ fn perform_live(
 {
     let set = head.set;
     match command {
-        Command::New(capacity, length) => start(head, true, storage, journal, capacity, length),
+        Command::New(capacity, length) => new_ledger(
+            head,
+            true,
+            storage,
+            journal,
+            capacity,
+            length,
+        ),
         Command::Mark(a, e) => called(head.mark(storage, journal, a as usize, e as usize)),
         Command::Clear(a, e) => called(head.clear(storage, journal, a as usize, e as usize)),
         Command::Count(a, e) => Performed {
@@ -126,11 +133,11 @@ fn perform_live(
 }
 
 // A command before an accepted `new`.
-fn perform_first(head: Ledger, storage: &[u64], journal: &[u32], command: Command) -> Performed
+fn perform_before_new(head: Ledger, storage: &[u64], journal: &[u32], command: Command) -> Performed
     ensures { λ r. ⌜ Performs command false (memory head (now (storage .entry)) (now (journal .entry))) (r .answer) (r .live) (memory (r .head) (now (storage .entry)) (now (journal .entry))) ⌝ }
 {
     if let Command::New(capacity, length) = command {
-        return start(head, false, storage, journal, capacity, length);
+        return new_ledger(head, false, storage, journal, capacity, length);
     }
     Performed {
         answer: Answer::BadLine,
@@ -151,7 +158,7 @@ fn perform(
     if live {
         perform_live(head, storage, journal, command)
     } else {
-        perform_first(head, storage, journal, command)
+        perform_before_new(head, storage, journal, command)
     }
 }
 
@@ -163,7 +170,7 @@ fn flush(out: &[u8], used: usize) {
 }
 
 // What goes from line to line: how far the line buffer and the output are filled, and the ledger.
-pub struct Desk {
+pub struct Session {
     pub kept: usize,
     pub used: usize,
     pub head: Ledger,
@@ -172,20 +179,20 @@ pub struct Desk {
 
 // Answers the line that the buffer holds.
 fn one_line(
-    desk: Desk,
+    session: Session,
     line: &[u8],
     out: &mut [u8],
     storage: &mut [u64],
     journal: &mut [u32],
-) -> Desk {
-    let kept = desk.kept;
-    let used = desk.used;
+) -> Session {
+    let kept = session.kept;
+    let used = session.used;
     if kept > line.len() {
-        return desk;
+        return session;
     }
     let command = command_lines::parse(&line[..kept]);
-    let head = desk.head;
-    let done = perform(head, desk.live, storage, journal, command);
+    let head = session.head;
+    let done = perform(head, session.live, storage, journal, command);
     let answer = done.answer;
     let next = done.head;
     let mut at = used;
@@ -193,7 +200,7 @@ fn one_line(
         flush(out, used);
         at = 0;
     }
-    Desk {
+    Session {
         kept: 0,
         used: command_lines::put_answer(out, at, answer),
         head: next,
@@ -203,15 +210,15 @@ fn one_line(
 
 // Answers the lines that end in a part of the input.
 fn part(
-    desk: Desk,
+    session: Session,
     text: &[u8],
     line: &mut [u8],
     out: &mut [u8],
     storage: &mut [u64],
     journal: &mut [u32],
-) -> Desk {
+) -> Session {
     let mut at = 0;
-    let mut now = desk;
+    let mut now = session;
     while at < text.len() {
         let found = command_lines::gather(text, at, line, now.kept);
         at = found.at;
@@ -231,7 +238,7 @@ fn serve(
     storage: &mut [u64],
     journal: &mut [u32],
 ) {
-    let mut desk = Desk {
+    let mut session = Session {
         kept: 0,
         used: 0,
         head: Ledger {
@@ -253,13 +260,13 @@ fn serve(
         if n == 0 {
             break;
         }
-        desk = part(desk, &input[..n], line, out, storage, journal);
-        flush(out, desk.used);
-        desk.used = 0;
+        session = part(session, &input[..n], line, out, storage, journal);
+        flush(out, session.used);
+        session.used = 0;
     }
-    if desk.kept > 0 {
-        desk = one_line(desk, line, out, storage, journal);
-        flush(out, desk.used);
+    if session.kept > 0 {
+        session = one_line(session, line, out, storage, journal);
+        flush(out, session.used);
     }
 }
 

@@ -8,11 +8,11 @@ use Rattle.sheetmark.proofs.serve.Statement.{statement}
 use Rattle.sheetmark.proofs.serve.Tie as tie
 
 abbrev Inv-loop : tie.InvT-loop
-Inv-loop input₀ line₀ out₀ storage₀ journal₀ desk₀ turns₀ input line out storage journal desk turns =
+Inv-loop input₀ line₀ out₀ storage₀ journal₀ session₀ turns₀ input line out storage journal session turns =
     (length input ≡ length input₀) × (length line ≡ length line₀) × (length out ≡ length out₀) × (length storage ≡ length storage₀) × (length journal ≡ length journal₀)
 
 abbrev μ-loop : tie.MeasureT-loop
-μ-loop input₀ line₀ out₀ storage₀ journal₀ desk₀ turns₀ input line out storage journal desk turns = turns
+μ-loop input₀ line₀ out₀ storage₀ journal₀ session₀ turns₀ input line out storage journal session turns = turns
 
 loop-holds : tie.Need-loop-holds Inv-loop μ-loop
 loop-holds c = (refl, refl, refl, refl, refl)
