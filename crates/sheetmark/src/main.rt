@@ -3,11 +3,15 @@
 // largest set's storage and the longest journal. Assumes that the kit's read and write do what they say.
 ghost use mathlib.Core.Path.{_≡_};
 ghost use mathlib.Core.Bool.{true, false};
-ghost use lib.ListN.{length};
+ghost use mathlib.Core.List.{List};
+ghost use Prim.Native.Nat.{ℕ, _≤_, _<_};
+ghost use lib.ListN.{length, take};
 ghost use Rattle.range_bitset.specs.Answers.{ofCounted, ofPlace};
 ghost use Rattle.ledger.specs.Memory.{memory};
 ghost use Rattle.sheetmark.specs.Performing.{Performs, Starts, answerOf, cut};
+ghost use Rattle.sheetmark.specs.Answering.{state, AnswersLine, withRoom, Parts, Ends};
 ghost use Rattle.ledger.specs.Entries.{newOf};
+ghost use Rattle.command_lines.specs.Input.{Holds};
 use command_lines::Answer;
 use command_lines::Command;
 use ledger::Called;
@@ -177,35 +181,50 @@ pub struct Session {
     pub live: bool,
 }
 
-// Answers the line that the buffer holds.
+// Answers a line, of which `line` is all bytes but the newline.
+fn answer_line(
+    session: Session,
+    line: &[u8],
+    out: &mut [u8],
+    storage: &mut [u64],
+    journal: &mut [u32],
+) -> Session
+    ensures { λ r. ⌜ AnswersLine (now (line .entry)) (state session (now (out .entry)) (now (storage .entry)) (now (journal .entry))) (state r (now (out .exit)) (now (storage .exit)) (now (journal .exit))) ⌝ }
+    ensures { λ r. ⌜ r .kept ≡ 0 ⌝ }
+{
+    let command = command_lines::parse(line);
+    let head = session.head;
+    let done = perform(head, session.live, storage, journal, command);
+    let answer = done.answer;
+    let next = done.head;
+    Session {
+        kept: 0,
+        used: command_lines::put_answer(out, session.used, answer),
+        head: next,
+        live: done.live,
+    }
+}
+
+// Answers the line that the buffer holds. Where the output has no room for an answer, it is written out before.
 fn one_line(
     session: Session,
     line: &[u8],
     out: &mut [u8],
     storage: &mut [u64],
     journal: &mut [u32],
-) -> Session {
+) -> Session
+    requires { ⌜ session .kept ≤ length (now line) ⌝ }
+    ensures { λ r. ⌜ AnswersLine (take (session .kept) (now (line .entry))) (withRoom (state session (now (out .entry)) (now (storage .entry)) (now (journal .entry)))) (state r (now (out .exit)) (now (storage .exit)) (now (journal .exit))) ⌝ }
+    ensures { λ r. ⌜ r .kept ≡ 0 ⌝ }
+{
     let kept = session.kept;
     let used = session.used;
-    if kept > line.len() {
-        return session;
-    }
-    let command = command_lines::parse(&line[..kept]);
-    let head = session.head;
-    let done = perform(head, session.live, storage, journal, command);
-    let answer = done.answer;
-    let next = done.head;
-    let mut at = used;
+    let mut next = session;
     if !command_lines::has_room(out, used) {
         flush(out, used);
-        at = 0;
+        next.used = 0;
     }
-    Session {
-        kept: 0,
-        used: command_lines::put_answer(out, at, answer),
-        head: next,
-        live: done.live,
-    }
+    answer_line(next, &line[..kept], out, storage, journal)
 }
 
 // Answers the lines that end in a part of the input.
@@ -216,7 +235,13 @@ fn part(
     out: &mut [u8],
     storage: &mut [u64],
     journal: &mut [u32],
-) -> Session {
+) -> Session
+    requires { ⌜ session .kept ≤ length (now line) ⌝ }
+    requires { ⌜ 27 < length (now line) ⌝ }
+    requires { ⌜ 12 ≤ length (now out) ⌝ }
+    ensures { λ r. ⌜ ((l : List ℕ) → Holds (now (line .entry)) (session .kept) l → Parts (now (text .entry)) l (state session (now (out .entry)) (now (storage .entry)) (now (journal .entry))) (state r (now (out .exit)) (now (storage .exit)) (now (journal .exit))) (r .kept) (now (line .exit))) ⌝ }
+    ensures { λ r. ⌜ r .kept ≤ length (now (line .exit)) ⌝ }
+{
     let mut at = 0;
     let mut now = session;
     while at < text.len() {
@@ -230,6 +255,25 @@ fn part(
     now
 }
 
+// At the input's end: what no newline ended is a line, unless there is nothing.
+fn last_line(
+    session: Session,
+    line: &[u8],
+    out: &mut [u8],
+    storage: &mut [u64],
+    journal: &mut [u32],
+) -> Session
+    requires { ⌜ session .kept ≤ length (now line) ⌝ }
+    requires { ⌜ 27 < length (now line) ⌝ }
+    requires { ⌜ 12 ≤ length (now out) ⌝ }
+    ensures { λ r. ⌜ ((l : List ℕ) → Holds (now (line .entry)) (session .kept) l → Ends l (state session (now (out .entry)) (now (storage .entry)) (now (journal .entry))) (state r (now (out .exit)) (now (storage .exit)) (now (journal .exit)))) ⌝ }
+{
+    if session.kept == 0 {
+        return session;
+    }
+    one_line(session, line, out, storage, journal)
+}
+
 // Reads and answers until the input ends. What is answered is written out before each read, so that it appears at once.
 fn serve(
     input: &mut [u8],
@@ -237,7 +281,10 @@ fn serve(
     out: &mut [u8],
     storage: &mut [u64],
     journal: &mut [u32],
-) {
+)
+    requires { ⌜ 27 < length (now line) ⌝ }
+    requires { ⌜ 12 ≤ length (now out) ⌝ }
+{
     let mut session = Session {
         kept: 0,
         used: 0,
@@ -264,10 +311,8 @@ fn serve(
         flush(out, session.used);
         session.used = 0;
     }
-    if session.kept > 0 {
-        session = one_line(session, line, out, storage, journal);
-        flush(out, session.used);
-    }
+    session = last_line(session, line, out, storage, journal);
+    flush(out, session.used);
 }
 
 fn main() {
