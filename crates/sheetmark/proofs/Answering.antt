@@ -5,7 +5,7 @@ use mathlib.Core.Bool.{Bool, true, false, cond}
 use mathlib.Core.List.{List, [], _∷_, _++_, append-assoc}
 use Prim.Native.Nat.{ℕ, _+_, _≤_, _<_, min}
 use native.Mathlib.Omega.{arith}
-use lib.ListN.{length, take, drop, length-drop, drop-of-length-le}
+use lib.ListN.{length, take, drop, length-append, length-drop, drop-of-length-le}
 use lib.Seq.{drop-drop}
 use lib.Dec.{leb}
 use borrow.Author.Tests.{le-leb}
@@ -121,17 +121,25 @@ module _ (text l : List ℕ) (at : ℕ) (s t : State) (kept : ℕ) (buffer : Lis
 
 -- ---- the input's end
 
-module _ (l buffer : List ℕ) (s : State) where
-  pub ends-none : Holds buffer 0 l → 27 < length buffer → Ends l s s
-  ends-none h size = go l (omega (arith, h .filled)) where
-    go : (k : List ℕ) → length k ≡ 0 → Ends k s s
-    go [] e = record { answers = []; serves = none }
-    go (b ∷ k) e = absurd (omega (arith, e))
+pub ends-none : (l buffer : List ℕ) (s : State) → Holds buffer 0 l → 27 < length buffer → Ends l s s
+ends-none l buffer s h size = go l (omega (arith, h .filled)) where
+  go : (k : List ℕ) → length k ≡ 0 → Ends k s s
+  go [] e = record { answers = []; serves = none }
+  go (b ∷ k) e = absurd (omega (arith, e))
 
-  pub ends-line : (kept : ℕ) → Holds buffer kept l → (kept ≡ 0 → ⊥) → 27 < length buffer → 12 ≤ length (s .out)
-      → (t : State) → AnswersLine (take kept buffer) (withRoom s) t → Ends l s t
-  ends-line kept h some size room t a = go l (held-means buffer l kept size h) (h .filled) where
-    go : (k : List ℕ) → meaning (take kept buffer) ≡ meaning k → kept ≡ min (length k) (length buffer) → Ends k s t
-    go [] e z = absurd (some (omega (arith, z)))
-    go (b ∷ k) e z =
-        record { answers = a .answer ∷ []; serves = line (has-room s room) (answers-same (take kept buffer) (b ∷ k) (withRoom s) t e a) none }
+-- of one newline the bytes kept are the only line
+only-line : (l r : List ℕ) (e : List (List ℕ)) (rs : List Answer) (s t : State) → _≡_ {A = List (List ℕ)} (l ∷ [] ∷ []) (e ++ (r ∷ [])) → Serves s e rs t
+    → Serves s (l ∷ []) rs t
+only-line l r [] rs s t p q = absurd (omega (arith, ap length p))
+only-line l r (x ∷ []) rs s t p q =
+    let y : x ≡ l = cc in
+    rw y at q
+only-line l r (x ∷ y ∷ e) rs s t p q = absurd (omega (arith, ap length p, length-append e (r ∷ [])))
+
+pub ends-line : (l buffer : List ℕ) (s t : State) (kept n : ℕ) (after : List ℕ) → Holds buffer kept l → (kept ≡ 0 → ⊥)
+    → Parts (10 ∷ []) l s t n after → Ends l s t
+unfolding linesFrom
+ends-line l buffer s t kept n after h some p = go l (h .filled) (only-line l (p .rest) (p .ended) (p .answers) s t (p .cut (10 ∷ [])) (p .serves)) where
+  go : (k : List ℕ) → kept ≡ min (length k) (length buffer) → Serves s (k ∷ []) (p .answers) t → Ends k s t
+  go [] z q = absurd (some (omega (arith, z)))
+  go (b ∷ k) z q = record { answers = p .answers; serves = q }

@@ -255,10 +255,10 @@ fn part(
     now
 }
 
-// At the input's end: what no newline ended is a line, unless there is nothing.
+// At the input's end: what no newline ended is a line, unless there is nothing. It gets the newline that it lacks.
 fn last_line(
     session: Session,
-    line: &[u8],
+    line: &mut [u8],
     out: &mut [u8],
     storage: &mut [u64],
     journal: &mut [u32],
@@ -271,7 +271,7 @@ fn last_line(
     if session.kept == 0 {
         return session;
     }
-    one_line(session, line, out, storage, journal)
+    part(session, b"\n", line, out, storage, journal)
 }
 
 // Reads and answers until the input ends. What is answered is written out before each read, so that it appears at once.

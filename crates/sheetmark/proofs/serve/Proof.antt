@@ -60,7 +60,7 @@ left c =
     (c .loop-test .came)
 
 same-length : tie.Need-same-length Inv-loop μ-loop
-same-length c = left (c .before .before .before .before .before .before .before .before .before .before .before .before .before)
+same-length c = left (c .before .before .before .before .before .before .before .before .before .before .before .before .before .before .before)
 
 same-length-2 : tie.Need-same-length-2 Inv-loop μ-loop
 same-length-2 c = search needs
