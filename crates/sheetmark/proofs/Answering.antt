@@ -6,17 +6,19 @@ use mathlib.Core.List.{List, [], _∷_, _++_, append-assoc}
 use Prim.Native.Nat.{ℕ, _+_, _≤_, _<_, min}
 use native.Mathlib.Omega.{arith}
 use lib.ListN.{length, take, drop, length-append, length-drop, drop-of-length-le}
-use lib.Seq.{drop-drop}
+use lib.Seq.{sets, drop-drop, length-sets}
 use lib.Dec.{leb}
 use borrow.Author.Tests.{le-leb}
 use Rattle.command_lines.specs.declared.Gathered.{Gathered}
 use Rattle.command_lines.specs.declared.Answer.{Answer}
 use Rattle.command_lines.specs.Lines.{meaning}
+use Rattle.command_lines.specs.Answers.{printed, filled, usedAfter}
 use Rattle.command_lines.specs.Input.{unended, linesFrom, upTo, ends, Gathers, Holds}
+use Rattle.command_lines.proofs.Filling.{sets-append}
 use Rattle.command_lines.proofs.Buffers.{holds-none, gathers-holds, held-means, lines-ended, lines-open, up-to-open}
 use Rattle.sheetmark.specs.declared.Session.{Session}
 use Rattle.sheetmark.specs.Performing.{Performs}
-use Rattle.sheetmark.specs.Answering.{State, state, AnswersLine, hasRoom, withRoom, Serves, none, line, Parts, Ends}
+use Rattle.sheetmark.specs.Answering.{State, state, AnswersLine, hasRoom, withRoom, Serves, none, line, texts, Appends, Parts, Ends}
 
 -- ---- room in the output
 
@@ -25,9 +27,9 @@ module _ (s n : Session) (out st j bytes : List ℕ) (t : State) where
       → AnswersLine bytes (withRoom (state s out st j)) t
   room-there e p a = rw e (rw p at a)
 
-  pub room-made : leb (s .used + 12) (length out) ≡ false → n ≡ record { kept = s .kept; used = 0; head = s .head; live = s .live }
+  pub room-made : leb (s .used + 12) (length out) ≡ false → n .used ≡ 0 → n .head ≡ s .head → n .live ≡ s .live
       → AnswersLine bytes (state n out st j) t → AnswersLine bytes (withRoom (state s out st j)) t
-  room-made e p a = rw e (rw p at a)
+  room-made e u h v a = rw e (rw (u, h, v) at a)
 
 -- an output of 12 bytes has room once it is written out
 has-room : (s : State) → 12 ≤ length (s .out) → hasRoom (withRoom s) ≡ true
@@ -47,6 +49,32 @@ serves-more (line k b r) h a = line k b (serves-more r h a)
 abbrev answers-same : (l k : List ℕ) (s t : State) → meaning l ≡ meaning k → AnswersLine l s t → AnswersLine k s t
 answers-same l k s t e a =
     record { answer = a .answer; performs = rw e at (a .performs); output = a .output; filled-to = a .filled-to }
+
+-- ---- answers one behind the other
+
+-- where there is room, the answer is put at `used`
+module _ (out : List ℕ) (used : ℕ) (a : Answer) (e : leb (used + 12) (length out) ≡ true) where
+  filled-there : filled out (cond (leb (used + 12) (length out)) used 0) a ≡ sets out used (printed a)
+  filled-there = simp e
+
+  used-there : usedAfter out (cond (leb (used + 12) (length out)) used 0) a ≡ used + length (printed a)
+  used-there = simp e
+
+serves-appends : {s t : State} {ls : List (List ℕ)} {rs : List Answer} → Serves s ls rs t → s .used + length (texts rs) + 12 ≤ length (s .out)
+    → Appends rs s t
+serves-appends none h = record { output = refl; filled-to = omega arith }
+serves-appends {s = s} (line {t = m} {rs = rs} k a r) h =
+    let p : List ℕ = printed (a .answer) in
+    let n : length (p ++ texts rs) ≡ length p + length (texts rs) = length-append p (texts rs) in
+    let e : hasRoom s ≡ true = le-leb (s .used + 12) (length (s .out)) (omega arith) in
+    let o : m .out ≡ sets (s .out) (s .used) p = a .output ∙ filled-there (s .out) (s .used) (a .answer) e in
+    let u : m .used ≡ s .used + length p = a .filled-to ∙ used-there (s .out) (s .used) (a .answer) e in
+    let size : length (m .out) ≡ length (s .out) = ap length o ∙ length-sets (s .out) (s .used) p in
+    let i = serves-appends r (omega arith) in
+    record {
+      output = i .output ∙ rw (o, u) (sets-append (s .out) (s .used) p (texts rs));
+      filled-to = omega (arith, i .filled-to);
+    }
 
 -- ---- a part of the input, answered up to an index
 
@@ -70,6 +98,7 @@ so-far-all text l at s t kept buffer h f =
       answers = f .answers;
       cut = λ more. f .cut more ∙ ap (λ (d : List ℕ). f .ended ++ linesFrom (f .rest) (d ++ more)) (drop-of-length-le text h);
       serves = f .serves;
+      appends = serves-appends (f .serves);
       holds = f .holds;
     }
 
@@ -85,9 +114,9 @@ module _ (text l : List ℕ) (at : ℕ) (s t : State) (kept : ℕ) (buffer : Lis
       drop-drop _ at text ∙ ap (λ (k : ℕ). drop k text) (sym n)
 
   -- a line ended, and is answered
-  pub so-far-line : r .ended ≡ true → 27 < length after → 12 ≤ length (t .out) → (u : State) (n : ℕ) → n ≡ 0
-      → AnswersLine (take (r .kept) after) (withRoom t) u → SoFar text l (r .at) s u n after
-  so-far-line h size room u n z a =
+  pub so-far-line : r .ended ≡ true → 27 < length after → 12 ≤ length (t .out) → (u : State) (n k : ℕ) → n ≡ 0 → k ≡ r .kept
+      → AnswersLine (take k after) (withRoom t) u → SoFar text l (r .at) s u n after
+  so-far-line h size room u n k z same a =
       let e : ends (drop at text) ≡ true = sym (g .ended) ∙ h in
       let whole : List ℕ = f .rest ++ upTo (drop at text) in
       record {
@@ -98,7 +127,7 @@ module _ (text l : List ℕ) (at : ℕ) (s t : State) (kept : ℕ) (buffer : Lis
             f .cut more
             ∙ ap (λ (x : List (List ℕ)). f .ended ++ x) (lines-ended (f .rest) (drop at text) more e ∙ ap (λ (d : List ℕ). whole ∷ linesFrom [] (d ++ more)) (next-line e))
             ∙ sym (append-assoc (f .ended) (whole ∷ []) (linesFrom [] (drop (r .at) text ++ more)));
-        serves = serves-more (f .serves) (has-room t room) (answers-same (take (r .kept) after) whole (withRoom t) u (held-means after whole (r .kept) size held) a);
+        serves = serves-more (f .serves) (has-room t room) (answers-same (take k after) whole (withRoom t) u (ap (λ (i : ℕ). meaning (take i after)) same ∙ held-means after whole (r .kept) size held) a);
         holds = rw z (holds-none after);
       }
 
@@ -121,8 +150,8 @@ module _ (text l : List ℕ) (at : ℕ) (s t : State) (kept : ℕ) (buffer : Lis
 
 -- ---- the input's end
 
-pub ends-none : (l buffer : List ℕ) (s : State) → Holds buffer 0 l → 27 < length buffer → Ends l s s
-ends-none l buffer s h size = go l (omega (arith, h .filled)) where
+pub ends-none : (l buffer : List ℕ) (s : State) (kept : ℕ) → Holds buffer kept l → kept ≡ 0 → 27 < length buffer → Ends l s s
+ends-none l buffer s kept h z size = go l (omega (arith, h .filled)) where
   go : (k : List ℕ) → length k ≡ 0 → Ends k s s
   go [] e = record { answers = []; serves = none }
   go (b ∷ k) e = absurd (omega (arith, e))

@@ -3,13 +3,14 @@
 use mathlib.Core.Path.{_≡_}
 use mathlib.Core.Bool.{Bool, true, cond}
 use mathlib.Core.List.{List, [], _∷_, _++_}
-use Prim.Native.Nat.{ℕ, _+_}
+use Prim.Native.Nat.{ℕ, _+_, _≤_}
 use lib.ListN.{length}
+use lib.Seq.{sets}
 use lib.Dec.{leb}
 use Rattle.ledger.specs.Memory.{Memory, memory}
 use Rattle.command_lines.specs.declared.Answer.{Answer}
 use Rattle.command_lines.specs.Lines.{meaning}
-use Rattle.command_lines.specs.Answers.{filled, usedAfter}
+use Rattle.command_lines.specs.Answers.{printed, filled, usedAfter}
 use Rattle.command_lines.specs.Input.{unended, linesFrom, Holds}
 use Rattle.sheetmark.specs.declared.Session.{Session}
 use Rattle.sheetmark.specs.Performing.{Performs}
@@ -46,14 +47,26 @@ pub data Serves : State → List (List ℕ) → List Answer → State → Type 0
   line : {s t u : State} {l : List ℕ} {ls : List (List ℕ)} {rs : List Answer}
       → hasRoom (withRoom s) ≡ true → (a : AnswersLine l (withRoom s) t) → Serves t ls rs u → Serves s (l ∷ ls) (a .answer ∷ rs) u
 
+-- the text of a list of answers, each with its newline
+abbrev pub texts : List Answer → List ℕ
+texts [] = []
+texts (a ∷ rs) = printed a ++ texts rs
+
+-- the answers' text put at `used`
+pub record Appends (rs : List Answer) (s t : State) : Type 0 where
+  pub output : t .out ≡ sets (s .out) (s .used) (texts rs)
+  pub filled-to : t .used ≡ s .used + length (texts rs)
+
 -- a part of the input, where the bytes l of a line came before it: the lines that end in the part are answered, and the bytes
--- of the unfinished one are kept. `cut` says which these are, whatever more is to come
+-- of the unfinished one are kept. `cut` says which these are, whatever more is to come. Where the output has room for all
+-- answers, and 12 bytes more, nothing is written out meanwhile: it has them all, one behind the other
 pub record Parts (text l : List ℕ) (s t : State) (kept : ℕ) (buffer : List ℕ) : Type 0 where
   pub ended : List (List ℕ)
   pub rest : List ℕ
   pub answers : List Answer
   pub cut : (more : List ℕ) → linesFrom l (text ++ more) ≡ ended ++ linesFrom rest more
   pub serves : Serves s ended answers t
+  pub appends : s .used + length (texts answers) + 12 ≤ length (s .out) → Appends answers s t
   pub holds : Holds buffer kept rest
 
 -- the input's end, where the bytes l of a line came before it: they are a line, unless there are none

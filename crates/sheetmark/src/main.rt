@@ -101,14 +101,7 @@ fn perform_live(
 {
     let set = head.set;
     match command {
-        Command::New(capacity, length) => new_ledger(
-            head,
-            true,
-            storage,
-            journal,
-            capacity,
-            length,
-        ),
+        Command::New(capacity, j) => new_ledger(head, true, storage, journal, capacity, j),
         Command::Mark(a, e) => called(head.mark(storage, journal, a as usize, e as usize)),
         Command::Clear(a, e) => called(head.clear(storage, journal, a as usize, e as usize)),
         Command::Count(a, e) => Performed {
@@ -140,8 +133,8 @@ fn perform_live(
 fn perform_before_new(head: Ledger, storage: &[u64], journal: &[u32], command: Command) -> Performed
     ensures { λ r. ⌜ Performs command false (memory head (now (storage .entry)) (now (journal .entry))) (r .answer) (r .live) (memory (r .head) (now (storage .entry)) (now (journal .entry))) ⌝ }
 {
-    if let Command::New(capacity, length) = command {
-        return new_ledger(head, false, storage, journal, capacity, length);
+    if let Command::New(capacity, j) = command {
+        return new_ledger(head, false, storage, journal, capacity, j);
     }
     Performed {
         answer: Answer::BadLine,

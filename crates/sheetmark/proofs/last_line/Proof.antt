@@ -1,11 +1,12 @@
 -- `last_line` meets its contract. Assumes nothing.
 use Rattle.sheetmark.proofs.Answering.{ends-none, ends-line}
+use native.Mathlib.Omega.{arith}
 use borrow.Author.Needs.{needs}
 use Rattle.sheetmark.proofs.last_line.Statement.{statement}
 use Rattle.sheetmark.proofs.last_line.Tie as tie
 
 returns : tie.Need-returns
-returns c = λ l h. ends-none l _ _ (rw (c .if1 .taken) at h) (c .before .before .before .before .before .before .pre .1 .0)
+returns c = λ l h. ends-none l _ _ _ h (omega arith) (c .before .before .before .before .before .before .pre .1 .0)
 
 slice-aggregate-part : tie.Need-slice-aggregate-part
 slice-aggregate-part c = search needs

@@ -1,5 +1,6 @@
 -- `one_line` meets its contract. Assumes nothing.
-use mathlib.Core.Path.{sym, _∙_}
+use mathlib.Core.Path.{sym, ap, _∙_}
+use Rattle.sheetmark.specs.declared.Session.{Session}
 use borrow.Author.Tests.{not-true, not-false}
 use Rattle.sheetmark.proofs.Answering.{room-made, room-there}
 use mathlib.Core.Logic.{⊎-elim}
@@ -32,11 +33,13 @@ same-length-3 c = search needs
 returns : tie.Need-returns
 returns c =
     let has = c .before .before .before .before .before .before .before .before .before .before .before .before .has-room .ensures in
-    let a = c .before .before .before .before .before .before .answer-line .ensures in (
+    let a = c .before .before .before .before .before .before .answer-line .ensures in
+    let s = c .before .before .before .before .before .before .before .before .before .before .before .before .before .before .before .before .before .before .args .session in
+    let if1 = c .before .before .before .before .before .before .before .before .before .before .before .if1 in (
       ⊎-elim
-          (λ w. room-made _ _ _ _ _ _ _ (sym has ∙ not-true _ (w .0 .taken)) (w .3) (a .0))
+          (λ w. room-made s (if1 .next) _ _ _ _ _ (sym has ∙ not-true _ (w .0 .taken)) (ap (λ (x : Session). x .used) (w .3)) (ap (λ (x : Session). x .head) (w .3)) (ap (λ (x : Session). x .live) (w .3)) (a .0))
           (λ w. room-there _ _ _ _ _ _ _ (sym has ∙ not-false _ (w .0 .left)) (w .1) (a .0))
-          (c .before .before .before .before .before .before .before .before .before .before .before .if1 .came),
+          (if1 .came),
       a .1,
     )
 
