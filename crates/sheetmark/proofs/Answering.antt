@@ -79,24 +79,24 @@ serves-appends {s = s} (line {t = m} {rs = rs} k a r) h =
 -- ---- a part of the input, answered up to an index
 
 pub record SoFar (text l : List ℕ) (at : ℕ) (s t : State) (kept : ℕ) (buffer : List ℕ) : Type 0 where
-  pub ended : List (List ℕ)
+  pub finished : List (List ℕ)
   pub rest : List ℕ
   pub answers : List Answer
-  pub cut : (more : List ℕ) → linesFrom l (text ++ more) ≡ ended ++ linesFrom rest (drop at text ++ more)
-  pub serves : Serves s ended answers t
+  pub cut : (more : List ℕ) → linesFrom l (text ++ more) ≡ finished ++ linesFrom rest (drop at text ++ more)
+  pub serves : Serves s finished answers t
   pub holds : Holds buffer kept rest
 
 pub so-far-none : (text l : List ℕ) (s : State) (kept : ℕ) (buffer : List ℕ) → Holds buffer kept l → SoFar text l 0 s s kept buffer
-so-far-none text l s kept buffer h = record { ended = []; rest = l; answers = []; cut = λ more. refl; serves = none; holds = h }
+so-far-none text l s kept buffer h = record { finished = []; rest = l; answers = []; cut = λ more. refl; serves = none; holds = h }
 
 pub so-far-all : (text l : List ℕ) (at : ℕ) (s t : State) (kept : ℕ) (buffer : List ℕ) → length text ≤ at → SoFar text l at s t kept buffer
     → Parts text l s t kept buffer
 so-far-all text l at s t kept buffer h f =
     record {
-      ended = f .ended;
+      finished = f .finished;
       rest = f .rest;
       answers = f .answers;
-      cut = λ more. f .cut more ∙ ap (λ (d : List ℕ). f .ended ++ linesFrom (f .rest) (d ++ more)) (drop-of-length-le text h);
+      cut = λ more. f .cut more ∙ ap (λ (d : List ℕ). f .finished ++ linesFrom (f .rest) (d ++ more)) (drop-of-length-le text h);
       serves = f .serves;
       appends = serves-appends (f .serves);
       holds = f .holds;
@@ -114,19 +114,19 @@ module _ (text l : List ℕ) (at : ℕ) (s t : State) (kept : ℕ) (buffer : Lis
       drop-drop _ at text ∙ ap (λ (k : ℕ). drop k text) (sym n)
 
   -- a line ended, and is answered
-  pub so-far-line : r .ended ≡ true → 27 < length after → 12 ≤ length (t .out) → (u : State) (n k : ℕ) → n ≡ 0 → k ≡ r .kept
-      → AnswersLine (take k after) (withRoom t) u → SoFar text l (r .at) s u n after
-  so-far-line h size room u n k z same a =
+  pub so-far-line : r .ended ≡ true → 27 < length after → 12 ≤ length (t .out) → (u : State) (n k : ℕ) → n ≡ 0
+      → AnswersLine (take k after) (withRoom t) u → k ≡ r .kept → SoFar text l (r .at) s u n after
+  so-far-line h size room u n k z a same =
       let e : ends (drop at text) ≡ true = sym (g .ended) ∙ h in
       let whole : List ℕ = f .rest ++ upTo (drop at text) in
       record {
-        ended = f .ended ++ (whole ∷ []);
+        finished = f .finished ++ (whole ∷ []);
         rest = [];
         answers = f .answers ++ (a .answer ∷ []);
         cut = λ more.
             f .cut more
-            ∙ ap (λ (x : List (List ℕ)). f .ended ++ x) (lines-ended (f .rest) (drop at text) more e ∙ ap (λ (d : List ℕ). whole ∷ linesFrom [] (d ++ more)) (next-line e))
-            ∙ sym (append-assoc (f .ended) (whole ∷ []) (linesFrom [] (drop (r .at) text ++ more)));
+            ∙ ap (λ (x : List (List ℕ)). f .finished ++ x) (lines-ended (f .rest) (drop at text) more e ∙ ap (λ (d : List ℕ). whole ∷ linesFrom [] (d ++ more)) (next-line e))
+            ∙ sym (append-assoc (f .finished) (whole ∷ []) (linesFrom [] (drop (r .at) text ++ more)));
         serves = serves-more (f .serves) (has-room t room) (answers-same (take k after) whole (withRoom t) u (ap (λ (i : ℕ). meaning (take i after)) same ∙ held-means after whole (r .kept) size held) a);
         holds = rw z (holds-none after);
       }
@@ -138,12 +138,12 @@ module _ (text l : List ℕ) (at : ℕ) (s t : State) (kept : ℕ) (buffer : Lis
       let n : r .at ≡ at + length (upTo (drop at text)) + 0 = g .next ∙ ap (λ (b : Bool). at + length (upTo (drop at text)) + cond b 1 0) e in
       let end : length text ≤ r .at = omega (arith, ap length (up-to-open (drop at text) e), length-drop at text) in
       record {
-        ended = f .ended;
+        finished = f .finished;
         rest = f .rest ++ upTo (drop at text);
         answers = f .answers;
         cut = λ more.
             f .cut more
-            ∙ ap (λ (x : List (List ℕ)). f .ended ++ x) (lines-open (f .rest) (drop at text) more e ∙ ap (λ (d : List ℕ). linesFrom (f .rest ++ upTo (drop at text)) (d ++ more)) (sym (drop-of-length-le text end)));
+            ∙ ap (λ (x : List (List ℕ)). f .finished ++ x) (lines-open (f .rest) (drop at text) more e ∙ ap (λ (d : List ℕ). linesFrom (f .rest ++ upTo (drop at text)) (d ++ more)) (sym (drop-of-length-le text end)));
         serves = f .serves;
         holds = held;
       }
@@ -168,7 +168,7 @@ only-line l r (x ∷ y ∷ e) rs s t p q = absurd (omega (arith, ap length p, le
 pub ends-line : (l buffer : List ℕ) (s t : State) (kept n : ℕ) (after : List ℕ) → Holds buffer kept l → (kept ≡ 0 → ⊥)
     → Parts (10 ∷ []) l s t n after → Ends l s t
 unfolding linesFrom
-ends-line l buffer s t kept n after h some p = go l (h .filled) (only-line l (p .rest) (p .ended) (p .answers) s t (p .cut (10 ∷ [])) (p .serves)) where
+ends-line l buffer s t kept n after h some p = go l (h .filled) (only-line l (p .rest) (p .finished) (p .answers) s t (p .cut (10 ∷ [])) (p .serves)) where
   go : (k : List ℕ) → kept ≡ min (length k) (length buffer) → Serves s (k ∷ []) (p .answers) t → Ends k s t
   go [] z q = absurd (some (omega (arith, z)))
   go (b ∷ k) z q = record { answers = p .answers; serves = q }

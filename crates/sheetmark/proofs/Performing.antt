@@ -27,7 +27,7 @@ use Rattle.command_lines.specs.declared.Answer.{Answer}
 use Rattle.command_lines.specs.declared.Answer.the-variants as answer
 use Rattle.command_lines.proofs.Command.{the-type}
 use Rattle.sheetmark.specs.declared.Performed.{Performed}
-use Rattle.sheetmark.specs.Performing.{answerOf, cut, Starts, IsBad, Calls, Asks, Seeks, Performs}
+use Rattle.sheetmark.specs.Performing.{answerOf, low32, Starts, IsBad, Calls, Asks, Seeks, Performs}
 
 -- ---- the arm of a known command, and of a known outcome of `new`
 
@@ -81,11 +81,11 @@ pub by-count : (x : Memory) (a e : ℕ) (n : Counted) (r : Answer) → CountEnsu
 by-count x a e n r q t = record { same-live = refl; same = refl; reply = ofCounted n; answers = q; told = t }
 
 -- below an end of at most 2^18 the 32 low bits are the position
-cut-same : (s : Positions) (v : Bool) (a e : ℕ) → e ≤ 64 * 4096 → (f : Found) → Searched s v a e f → cut (ofFound f) ≡ ofFound f
-cut-same s v a e n f (hit j m) = ap Number (omega (arith, m .high))
-cut-same s v a e n f (miss m) = refl
+low-same : (s : Positions) (v : Bool) (a e : ℕ) → e ≤ 64 * 4096 → (f : Found) → Searched s v a e f → low32 (ofFound f) ≡ ofFound f
+low-same s v a e n f (hit j m) = ap Number (omega (arith, m .high))
+low-same s v a e n f (miss m) = refl
 
-pub by-search : (x : Memory) (a e : ℕ) (v : Bool) (p : Place) (r : Answer) → NextEnsures v (x .head .set) (x .storage) a e p → r ≡ answerOf (cut (ofPlace p))
+pub by-search : (x : Memory) (a e : ℕ) (v : Bool) (p : Place) (r : Answer) → NextEnsures v (x .head .set) (x .storage) a e p → r ≡ answerOf (low32 (ofPlace p))
     → Seeks (rangeRefusal (x .head .set) (length (x .storage)) e) x (λ s. ofFound (first s v a e)) r true x
 by-search x a e v p r q t =
     record {
@@ -96,6 +96,6 @@ by-search x a e v p r q t =
       told = t;
       whole = λ z s y.
           let room = range-accepted (x .head .set) (x .storage) e z in
-          t ∙ ap (λ (b : Reply). answerOf (cut b)) (q .answers z s y)
-          ∙ ap answerOf (cut-same s v a e (omega (arith, room .1, room .0 .most)) (first s v a e) (first-means s v a e));
+          t ∙ ap (λ (b : Reply). answerOf (low32 b)) (q .answers z s y)
+          ∙ ap answerOf (low-same s v a e (omega (arith, room .1, room .0 .most)) (first s v a e) (first-means s v a e));
     }

@@ -61,11 +61,11 @@ pub record Appends (rs : List Answer) (s t : State) : Type 0 where
 -- of the unfinished one are kept. `cut` says which these are, whatever more is to come. Where the output has room for all
 -- answers, and 12 bytes more, nothing is written out meanwhile: it has them all, one behind the other
 pub record Parts (text l : List ℕ) (s t : State) (kept : ℕ) (buffer : List ℕ) : Type 0 where
-  pub ended : List (List ℕ)
+  pub finished : List (List ℕ)
   pub rest : List ℕ
   pub answers : List Answer
-  pub cut : (more : List ℕ) → linesFrom l (text ++ more) ≡ ended ++ linesFrom rest more
-  pub serves : Serves s ended answers t
+  pub cut : (more : List ℕ) → linesFrom l (text ++ more) ≡ finished ++ linesFrom rest more
+  pub serves : Serves s finished answers t
   pub appends : s .used + length (texts answers) + 12 ≤ length (s .out) → Appends answers s t
   pub holds : Holds buffer kept rest
 

@@ -25,10 +25,10 @@ answerOf Nothing = answer.Nothing
 answerOf (Refusal k) = answer.Refused k
 
 -- a number in 32 bits
-abbrev pub cut : Reply → Reply
-cut (Number n) = Number (n % 2 ^ 32)
-cut Nothing = Nothing
-cut (Refusal k) = Refusal k
+abbrev pub low32 : Reply → Reply
+low32 (Number n) = Number (n % 2 ^ 32)
+low32 Nothing = Nothing
+low32 (Refusal k) = Refusal k
 
 -- `bad line` is printed, and nothing is changed
 pub record IsBad (live : Bool) (x : Memory) (a : Answer) (live′ : Bool) (y : Memory) : Type 0 where
@@ -63,7 +63,7 @@ pub record Seeks (k : ℕ) (x : Memory) (f : Positions → Reply) (a : Answer) (
   pub same : y ≡ x
   pub reply : Reply
   pub answers : Answers k (x .head .set) (x .storage) f reply
-  pub told : a ≡ answerOf (cut reply)
+  pub told : a ≡ answerOf (low32 reply)
   pub whole : k ≡ 0 → (s : Positions) → Represents (x .head .set) (x .storage) s → a ≡ answerOf (f s)
 
 -- before an accepted `new`, every other command is a bad line

@@ -8,7 +8,7 @@ ghost use Prim.Native.Nat.{ℕ, _≤_, _<_};
 ghost use lib.ListN.{length, take};
 ghost use Rattle.range_bitset.specs.Answers.{ofCounted, ofPlace};
 ghost use Rattle.ledger.specs.Memory.{memory};
-ghost use Rattle.sheetmark.specs.Performing.{Performs, Starts, answerOf, cut};
+ghost use Rattle.sheetmark.specs.Performing.{Performs, Starts, answerOf, low32};
 ghost use Rattle.sheetmark.specs.Answering.{state, AnswersLine, withRoom, Parts, Ends};
 ghost use Rattle.ledger.specs.Entries.{newOf};
 ghost use Rattle.command_lines.specs.Input.{Holds};
@@ -39,7 +39,7 @@ fn of_counted(counted: Counted) -> Answer
 
 // A position is below the capacity, so that 32 bits hold it; any other number is cut to them.
 fn of_found(found: Found) -> Answer
-    ensures { λ r. ⌜ r ≡ answerOf (cut (ofPlace found)) ⌝ }
+    ensures { λ r. ⌜ r ≡ answerOf (low32 (ofPlace found)) ⌝ }
 {
     match found {
         Found::At(i) => Answer::Number((i % 0x1_0000_0000) as u32),

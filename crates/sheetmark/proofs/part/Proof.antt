@@ -50,7 +50,7 @@ loop-again c =
       o .kept .1 .1 .1 .1 .0 ∙ i .3,
       omega (arith, o .ensures .1),
       λ l h.
-          so-far-line _ _ _ _ _ _ _ (g .result) _ (i .5 l h) (g .ensures) (c .before .before .before .before .before .before .before .before .before .before .before .if1 .taken) (omega (arith, g .kept .1 .1 .0, i .0, pre .1 .0)) (omega (arith, i .1, pre .1 .1)) _ _ _ (o .ensures .1) refl (o .ensures .0),
+          so-far-line _ _ _ _ _ _ _ (g .result) _ (i .5 l h) (g .ensures) (c .before .before .before .before .before .before .before .before .before .before .before .if1 .taken) (omega (arith, g .kept .1 .1 .0, i .0, pre .1 .0)) (omega (arith, i .1, pre .1 .1)) _ _ _ (o .ensures .1) (o .ensures .0) refl,
     )
 
 loop-less-2 : tie.Need-loop-less-2 Inv-loop μ-loop
