@@ -59,7 +59,7 @@ pub record Appends (rs : List Answer) (s t : State) : Type 0 where
 
 -- a part of the input, where the bytes l of a line came before it: the lines that end in the part are answered, and the bytes
 -- of the unfinished one are kept. `cut` says which these are, whatever more is to come. Where the output has room for all
--- answers, and 12 bytes more, nothing is written out meanwhile: it has them all, one behind the other
+-- answers, and 12 bytes more, it has them all afterwards, one behind the other
 pub record Parts (text l : List ℕ) (s t : State) (kept : ℕ) (buffer : List ℕ) : Type 0 where
   pub finished : List (List ℕ)
   pub rest : List ℕ
