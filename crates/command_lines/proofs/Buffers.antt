@@ -134,6 +134,14 @@ lines-open l (b ∷ t) more e = go (eqb b 10) refl e (λ h. lines-open (l ++ (b 
   go true p h i = absurd (false≢true (sym h))
   go false p h i = i h ∙ ap (λ (x : List ℕ). linesFrom x more) (append-assoc l (b ∷ []) (upTo t))
 
+pub up-to-open : (t : List ℕ) → ends t ≡ false → upTo t ≡ t
+unfolding upTo ends
+up-to-open [] e = refl
+up-to-open (b ∷ t) e = go (eqb b 10) e (up-to-open t) where
+  go : (s : Bool) → cond s true (ends t) ≡ false → (ends t ≡ false → upTo t ≡ t) → cond s [] (b ∷ upTo t) ≡ b ∷ t
+  go true h i = absurd (false≢true (sym h))
+  go false h i = ap (λ (x : List ℕ). b ∷ x) (i h)
+
 -- ---- what a loop over a text needs: gathering moves on, within the text, and keeps within the buffer
 
 up-to-length : (t : List ℕ) → length (upTo t) + cond (ends t) 1 0 ≤ length t

@@ -10,7 +10,7 @@ use lib.Dec.{eqb}
 use borrow.Author.Tests.{eqb-true, not-true, eq-eqb, ne-eqb}
 use Rattle.positions.proofs.Bools.{and-left, and-right}
 use Rattle.command_lines.specs.Lines.{fields, onto}
-use Rattle.command_lines.specs.Reading.{firstField}
+use Rattle.command_lines.specs.Inner.{firstField}
 
 -- the fields after the byte that ends the first one
 abbrev pub rest : List ℕ → List (List ℕ)

@@ -9,7 +9,7 @@ use Rattle.command_lines.specs.declared.Command.the-variants.{Bad}
 use Rattle.command_lines.specs.declared.Pair.{Pair}
 use Rattle.command_lines.specs.declared.Pair.the-variants.{Both, Not}
 use Rattle.command_lines.specs.Lines.{fields, pair, same, new, mark, clear, count, one, zero, back, wipe, with, command, meaning}
-use Rattle.command_lines.specs.Reading.{starts}
+use Rattle.command_lines.specs.Inner.{starts}
 use Rattle.command_lines.proofs.Texts.{same-true, starts-true, starts-self}
 use Rattle.command_lines.proofs.Fields.{fields-split, joined, fields-joined, spaceless, fields-word}
 

@@ -12,7 +12,7 @@ use borrow.Author.Tests.{lt-leb, le-leb, eqb-false, eqb-true}
 use Rattle.command_lines.specs.declared.Field.{Field}
 use Rattle.command_lines.specs.declared.Field.the-variants.{Number, Other}
 use Rattle.command_lines.specs.Lines.{digit, allDigits, valueFrom, value, isNumber}
-use Rattle.command_lines.specs.Reading.{firstField, readAt, finish}
+use Rattle.command_lines.specs.Inner.{firstField, readAt, finish}
 use Rattle.command_lines.proofs.Fields.{first-more}
 
 -- the field at `from` whose first n digits have the value v, and whose further bytes are f

@@ -7,7 +7,7 @@ use lib.ListN.{length, drop}
 use Rattle.command_lines.specs.declared.Field.the-variants.{Number, Other}
 use Rattle.command_lines.specs.declared.Pair.the-variants.{Both, Not}
 use Rattle.command_lines.specs.Lines.{fields, isNumber, pair}
-use Rattle.command_lines.specs.Reading.{firstField, readAt}
+use Rattle.command_lines.specs.Inner.{firstField, readAt}
 use Rattle.command_lines.proofs.Fields.{rest, fields-at, rest-end, rest-more}
 use Rattle.command_lines.proofs.NumberFields.{not-number, a-number}
 

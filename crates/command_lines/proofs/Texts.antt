@@ -10,7 +10,7 @@ use lib.Dec.{eqb}
 use borrow.Author.Tests.{eqb-true, eq-eqb, ne-eqb}
 use Rattle.positions.proofs.Bools.{and-left, and-right}
 use Rattle.command_lines.specs.Lines.{same}
-use Rattle.command_lines.specs.Reading.{starts}
+use Rattle.command_lines.specs.Inner.{starts}
 
 pub same-true : (a b : List ℕ) → same a b ≡ true → a ≡ b
 same-true [] [] e = refl

@@ -1,6 +1,6 @@
--- What the contracts of this crate speak with: what a line means, what an answer's line reads, and how input falls
--- into lines. Assumes nothing.
+-- What the contracts of this crate speak with. To believe: Lines (what a line means), Answers (what an answer's line reads) and
+-- Input (how input falls into lines). Inner has the contracts of inner functions, which no caller sees. Assumes nothing.
 pub mod Lines
 pub mod Answers
 pub mod Input
-pub mod Reading
+pub mod Inner

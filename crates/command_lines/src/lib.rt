@@ -1,4 +1,4 @@
-// The lines of `sheetmark`: what a command line means, the text of an answer, and lines gathered from input in chunks.
+// The lines of `sheetmark`: what a command line means, the text of an answer, and lines gathered from input in parts.
 // Every buffer is lent by the caller. Nothing here knows of a ledger, and nothing reads or writes a file.
 ghost use mathlib.Core.Path.{_≡_};
 ghost use mathlib.Core.List.{[], _∷_, _++_};
@@ -7,7 +7,7 @@ ghost use lib.ListN.{length, drop, set};
 ghost use lib.Seq.{sets};
 ghost use lib.Dec.{leb};
 ghost use Rattle.command_lines.specs.Lines.{fields, meaning, pair, with};
-ghost use Rattle.command_lines.specs.Reading.{starts, readAt, finish, wordOf};
+ghost use Rattle.command_lines.specs.Inner.{starts, readAt, finish, wordOf};
 ghost use Rattle.command_lines.specs.Answers.{digits, filled, usedAfter};
 ghost use Rattle.command_lines.specs.Input.{Gathers, keptNext};
 
@@ -74,7 +74,7 @@ fn starts_with(line: &[u8], word: &[u8]) -> bool
 }
 
 // The number of the `at - from` digits that end at `at`, if there is one digit at least and the number is below 2^32.
-fn ended(value: u64, from: usize, at: usize) -> Field
+fn field_of(value: u64, from: usize, at: usize) -> Field
     ensures { λ r. ⌜ r ≡ finish from at value ⌝ }
 {
     if at == from {
@@ -95,7 +95,7 @@ fn number(line: &[u8], from: usize) -> Field
     while at < line.len() {
         let b = line[at];
         if b == b' ' {
-            return ended(value, from, at);
+            return field_of(value, from, at);
         }
         if b < b'0' {
             return Field::Other;
@@ -109,7 +109,7 @@ fn number(line: &[u8], from: usize) -> Field
         value = value * 10 + (b - b'0') as u64;
         at += 1;
     }
-    ended(value, from, at)
+    field_of(value, from, at)
 }
 
 // The two numbers that the text from `from` on consists of.
@@ -256,7 +256,7 @@ pub fn put_answer(out: &mut [u8], used: usize, answer: Answer) -> usize
     }
 }
 
-// ---- lines from input in chunks
+// ---- lines from input in parts
 
 // Where gathering stopped: the next byte of the input, how far the buffer is filled, and whether the line has ended.
 pub struct Gathered {

@@ -1,2 +1,3 @@
 -- The program's laws. Assumes nothing.
 pub mod Performing
+pub mod Answering

@@ -1,5 +1,5 @@
--- Laws of performing a command: each arm's promise from the call that it makes; a search's answer cut to 32 bits is the
--- answer. Assumes nothing.
+-- Laws of performing a command: each arm's promise from the call that it makes; a found position cut to 32 bits is the
+-- position. Assumes nothing.
 use mathlib.Core.Path.{_≡_, refl, sym, ap, _∙_, subst}
 use mathlib.Core.Bool.{Bool, true, false}
 use mathlib.Core.Logic.{inl, inr}
@@ -11,11 +11,9 @@ use types.Run.{OneOf}
 use denote.Enum.Declared.{tagOf}
 use Rattle.positions.specs.Positions.{Positions, Found, At, first, count}
 use Rattle.positions.proofs.Searches.{Searched, hit, miss, first-means}
-use Rattle.range_bitset.specs.Answers.{Reply, Number, ofCounted, ofPlace, ofFound, refused, Accepted, rangeRefusal}
-use Rattle.range_bitset.specs.Entries.{Answers, CountEnsures, NextEnsures}
-use Rattle.range_bitset.specs.declared.RangeBitset.{RangeBitset}
+use Rattle.range_bitset.specs.Answers.{Reply, Number, ofCounted, ofPlace, ofFound, rangeRefusal}
+use Rattle.range_bitset.specs.Entries.{CountEnsures, NextEnsures}
 use Rattle.range_bitset.specs.declared.Found.{Found as Place}
-use Rattle.range_bitset.specs.declared.Found.the-variants as place
 use Rattle.range_bitset.specs.declared.Counted.{Counted}
 use Rattle.range_bitset.proofs.Heads.{range-accepted}
 use Rattle.ledger.specs.Machine.{Call}
@@ -29,7 +27,7 @@ use Rattle.command_lines.specs.declared.Answer.{Answer}
 use Rattle.command_lines.specs.declared.Answer.the-variants as answer
 use Rattle.command_lines.proofs.Command.{the-type}
 use Rattle.sheetmark.specs.declared.Performed.{Performed}
-use Rattle.sheetmark.specs.Performing.{replyOf, foundReply, Starts, IsBad, Performs}
+use Rattle.sheetmark.specs.Performing.{answerOf, low32, Starts, IsBad, Calls, Asks, Seeks, Performs}
 
 -- ---- the arm of a known command, and of a known outcome of `new`
 
@@ -44,9 +42,9 @@ started n o live x a live′ y e p = subst (λ c. Starts c live x a live′ y) (
 -- ---- a call of the ledger
 
 pub by-call : (c : Call) (x : Memory) (d : Done) (r : Performed) (st j : List ℕ)
-    → (replyOf (r .answer) ≡ ofCounted (d .answer)) × (r .head ≡ d .head) × (r .live ≡ true)
-    → Called c x (ofCounted (d .answer)) (memory (d .head) st j) → (r .live ≡ true) × Called c x (replyOf (r .answer)) (memory (r .head) st j)
-by-call c x d r st j t e = (t .2, rw (t .0, t .1) e)
+    → (r .answer ≡ answerOf (ofCounted (d .answer))) × (r .head ≡ d .head) × (r .live ≡ true)
+    → Called c x (ofCounted (d .answer)) (memory (d .head) st j) → Calls c x (r .answer) (r .live) (memory (r .head) st j)
+by-call c x d r st j t e = record { same-live = t .2; reply = ofCounted (d .answer); called = rw (t .1) e; told = t .0 }
 
 -- ---- a command before an accepted `new`
 
@@ -64,53 +62,40 @@ not-new t (inr (inr (inr (inr (inr (inr (inr e))))))) z = omega arith
 bad-same : (x : Memory) → IsBad false x answer.BadLine false x
 bad-same x = record { bad = refl; same-live = refl; same = refl }
 
-pub bad-first : (k : Command) (x : Memory) → OneOf (1 ∷ 2 ∷ 3 ∷ 4 ∷ 5 ∷ 6 ∷ 7 ∷ 8 ∷ []) (tagOf the-type k)
+pub bad-before-new : (k : Command) (x : Memory) → OneOf (1 ∷ 2 ∷ 3 ∷ 4 ∷ 5 ∷ 6 ∷ 7 ∷ 8 ∷ []) (tagOf the-type k)
     → Performs k false x answer.BadLine false x
-bad-first (command.New a b) x t = absurd (not-new _ t refl)
-bad-first (command.Mark a b) x t = bad-same x
-bad-first (command.Clear a b) x t = bad-same x
-bad-first (command.Count a b) x t = bad-same x
-bad-first (command.One a b) x t = bad-same x
-bad-first (command.Zero a b) x t = bad-same x
-bad-first command.Back x t = bad-same x
-bad-first command.Wipe x t = bad-same x
-bad-first command.Bad x t = bad-same x
+bad-before-new (command.New a b) x t = absurd (not-new _ t refl)
+bad-before-new (command.Mark a b) x t = bad-same x
+bad-before-new (command.Clear a b) x t = bad-same x
+bad-before-new (command.Count a b) x t = bad-same x
+bad-before-new (command.One a b) x t = bad-same x
+bad-before-new (command.Zero a b) x t = bad-same x
+bad-before-new command.Back x t = bad-same x
+bad-before-new command.Wipe x t = bad-same x
+bad-before-new command.Bad x t = bad-same x
 
 -- ---- the queries
 
--- the count's promise holds of the answer
-pub count-answers : (h : RangeBitset) (st : List ℕ) (a e : ℕ) (n : Counted) (r : Reply) → CountEnsures h st a e n → r ≡ ofCounted n
-    → Answers (rangeRefusal h (length st) e) h st (λ s. Number (count s a e)) r
-count-answers h st a e n r q x = rw x q
+pub by-count : (x : Memory) (a e : ℕ) (n : Counted) (r : Answer) → CountEnsures (x .head .set) (x .storage) a e n → r ≡ answerOf (ofCounted n)
+    → Asks (rangeRefusal (x .head .set) (length (x .storage)) e) x (λ s. Number (count s a e)) r true x
+by-count x a e n r q t = record { same-live = refl; same = refl; reply = ofCounted n; answers = q; told = t }
 
--- cutting to 32 bits refuses nothing
-refuses-same : (p : Place) → refused (foundReply p) ≡ refused (ofPlace p)
-refuses-same (place.At i) = refl
-refuses-same place.Nothing = refl
-refuses-same (place.Refused k) = refl
+-- below an end of at most 2^18 the 32 low bits are the position
+low-same : (s : Positions) (v : Bool) (a e : ℕ) → e ≤ 64 * 4096 → (f : Found) → Searched s v a e f → low32 (ofFound f) ≡ ofFound f
+low-same s v a e n f (hit j m) = ap Number (omega (arith, m .high))
+low-same s v a e n f (miss m) = refl
 
--- below an end of at most 2^18 it changes nothing
-cut-same : (s : Positions) (v : Bool) (a e : ℕ) → e ≤ 64 * 4096 → (p : Place) (f : Found) → Searched s v a e f → ofPlace p ≡ ofFound f → foundReply p ≡ ofFound f
-cut-same s v a e n (place.At i) f (hit j m) x =
-    let y : i ≡ j = cc in
-    ap Number (omega (arith, y, m .high))
-cut-same s v a e n (place.At i) f (miss m) x = absurd (let z : _≡_ {A = ℕ} 0 1 = cc in omega arith)
-cut-same s v a e n place.Nothing f m x = x
-cut-same s v a e n (place.Refused k) f m x = x
-
-accepts-same : (p : Place) → Accepted (ofPlace p) → Accepted (foundReply p)
-accepts-same (place.At i) y = tt
-accepts-same place.Nothing y = tt
-accepts-same (place.Refused k) y = y
-
--- the search's promise holds of the answer in 32 bits
-pub found-answers : (h : RangeBitset) (st : List ℕ) (a e : ℕ) (v : Bool) (p : Place) (r : Reply) → NextEnsures v h st a e p → r ≡ foundReply p
-    → Answers (rangeRefusal h (length st) e) h st (λ s. ofFound (first s v a e)) r
-found-answers h st a e v p r q x =
+pub by-search : (x : Memory) (a e : ℕ) (v : Bool) (p : Place) (r : Answer) → NextEnsures v (x .head .set) (x .storage) a e p → r ≡ answerOf (low32 (ofPlace p))
+    → Seeks (rangeRefusal (x .head .set) (length (x .storage)) e) x (λ s. ofFound (first s v a e)) r true x
+by-search x a e v p r q t =
     record {
-      refuses = ap refused x ∙ refuses-same p ∙ q .refuses;
-      accepts = λ z. rw x (accepts-same p (q .accepts z));
-      answers = λ z s y.
-          let room = range-accepted h st e z in
-          x ∙ cut-same s v a e (omega (arith, room .1, room .0 .most)) p (first s v a e) (first-means s v a e) (q .answers z s y);
+      same-live = refl;
+      same = refl;
+      reply = ofPlace p;
+      answers = q;
+      told = t;
+      whole = λ z s y.
+          let room = range-accepted (x .head .set) (x .storage) e z in
+          t ∙ ap (λ (b : Reply). answerOf (low32 b)) (q .answers z s y)
+          ∙ ap answerOf (low-same s v a e (omega (arith, room .1, room .0 .most)) (first s v a e) (first-means s v a e));
     }

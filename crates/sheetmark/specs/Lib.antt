@@ -1,2 +1,3 @@
--- What a command does to the program's ledger. Assumes nothing.
+-- What a command does to the program's ledger, and how lines are answered. Assumes nothing.
 pub mod Performing
+pub mod Answering

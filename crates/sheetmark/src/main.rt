@@ -1,13 +1,17 @@
-// `sheetmark`: reads commands, one a line, and prints one answer a line. A thin loop over proved parts: what a line means and
-// what is printed are command_lines', what a command does is the ledger's. Memory is fixed: a line buffer, one input and one
-// output buffer, the largest set's storage and the longest journal. Assumes that the kit's read and write do what they say.
+// `sheetmark`: reads commands, one a line, and prints one answer a line. What a line means and what is printed are
+// command_lines', what a command does is the ledger's. Memory is fixed: a line buffer, one input and one output buffer, the
+// largest set's storage and the longest journal. Assumes that the kit's read and write do what they say.
 ghost use mathlib.Core.Path.{_≡_};
 ghost use mathlib.Core.Bool.{true, false};
-ghost use lib.ListN.{length};
-ghost use Rattle.range_bitset.specs.Answers.{ofCounted};
+ghost use mathlib.Core.List.{List};
+ghost use Prim.Native.Nat.{ℕ, _≤_, _<_};
+ghost use lib.ListN.{length, take};
+ghost use Rattle.range_bitset.specs.Answers.{ofCounted, ofPlace};
 ghost use Rattle.ledger.specs.Memory.{memory};
-ghost use Rattle.sheetmark.specs.Performing.{Performs, Starts, replyOf, foundReply};
+ghost use Rattle.sheetmark.specs.Performing.{Performs, Starts, answerOf, low32};
+ghost use Rattle.sheetmark.specs.Answering.{state, AnswersLine, withRoom, Parts, Ends};
 ghost use Rattle.ledger.specs.Entries.{newOf};
+ghost use Rattle.command_lines.specs.Input.{Holds};
 use command_lines::Answer;
 use command_lines::Command;
 use ledger::Called;
@@ -25,7 +29,7 @@ pub struct Performed {
 }
 
 fn of_counted(counted: Counted) -> Answer
-    ensures { λ r. ⌜ replyOf r ≡ ofCounted counted ⌝ }
+    ensures { λ r. ⌜ r ≡ answerOf (ofCounted counted) ⌝ }
 {
     match counted {
         Counted::Count(n) => Answer::Number(n),
@@ -35,7 +39,7 @@ fn of_counted(counted: Counted) -> Answer
 
 // A position is below the capacity, so that 32 bits hold it; any other number is cut to them.
 fn of_found(found: Found) -> Answer
-    ensures { λ r. ⌜ replyOf r ≡ foundReply found ⌝ }
+    ensures { λ r. ⌜ r ≡ answerOf (low32 (ofPlace found)) ⌝ }
 {
     match found {
         Found::At(i) => Answer::Number((i % 0x1_0000_0000) as u32),
@@ -45,7 +49,7 @@ fn of_found(found: Found) -> Answer
 }
 
 fn called(done: Called) -> Performed
-    ensures { λ r. ⌜ (replyOf (r .answer) ≡ ofCounted (done .answer)) × (r .head ≡ done .head) × (r .live ≡ true) ⌝ }
+    ensures { λ r. ⌜ (r .answer ≡ answerOf (ofCounted (done .answer))) × (r .head ≡ done .head) × (r .live ≡ true) ⌝ }
 {
     let answer = done.answer;
     let head = done.head;
@@ -57,7 +61,7 @@ fn called(done: Called) -> Performed
 }
 
 // `new`: a fresh ledger, or the present one kept.
-fn start(
+fn new_ledger(
     head: Ledger,
     live: bool,
     storage: &[u64],
@@ -97,7 +101,7 @@ fn perform_live(
 {
     let set = head.set;
     match command {
-        Command::New(capacity, length) => start(head, true, storage, journal, capacity, length),
+        Command::New(capacity, j) => new_ledger(head, true, storage, journal, capacity, j),
         Command::Mark(a, e) => called(head.mark(storage, journal, a as usize, e as usize)),
         Command::Clear(a, e) => called(head.clear(storage, journal, a as usize, e as usize)),
         Command::Count(a, e) => Performed {
@@ -126,11 +130,11 @@ fn perform_live(
 }
 
 // A command before an accepted `new`.
-fn perform_first(head: Ledger, storage: &[u64], journal: &[u32], command: Command) -> Performed
+fn perform_before_new(head: Ledger, storage: &[u64], journal: &[u32], command: Command) -> Performed
     ensures { λ r. ⌜ Performs command false (memory head (now (storage .entry)) (now (journal .entry))) (r .answer) (r .live) (memory (r .head) (now (storage .entry)) (now (journal .entry))) ⌝ }
 {
-    if let Command::New(capacity, length) = command {
-        return start(head, false, storage, journal, capacity, length);
+    if let Command::New(capacity, j) = command {
+        return new_ledger(head, false, storage, journal, capacity, j);
     }
     Performed {
         answer: Answer::BadLine,
@@ -151,7 +155,7 @@ fn perform(
     if live {
         perform_live(head, storage, journal, command)
     } else {
-        perform_first(head, storage, journal, command)
+        perform_before_new(head, storage, journal, command)
     }
 }
 
@@ -163,55 +167,76 @@ fn flush(out: &[u8], used: usize) {
 }
 
 // What goes from line to line: how far the line buffer and the output are filled, and the ledger.
-pub struct Desk {
+pub struct Session {
     pub kept: usize,
     pub used: usize,
     pub head: Ledger,
     pub live: bool,
 }
 
-// Answers the line that the buffer holds.
-fn one_line(
-    desk: Desk,
+// Answers a line, of which `line` is all bytes but the newline.
+fn answer_line(
+    session: Session,
     line: &[u8],
     out: &mut [u8],
     storage: &mut [u64],
     journal: &mut [u32],
-) -> Desk {
-    let kept = desk.kept;
-    let used = desk.used;
-    if kept > line.len() {
-        return desk;
-    }
-    let command = command_lines::parse(&line[..kept]);
-    let head = desk.head;
-    let done = perform(head, desk.live, storage, journal, command);
+) -> Session
+    ensures { λ r. ⌜ AnswersLine (now (line .entry)) (state session (now (out .entry)) (now (storage .entry)) (now (journal .entry))) (state r (now (out .exit)) (now (storage .exit)) (now (journal .exit))) ⌝ }
+    ensures { λ r. ⌜ r .kept ≡ 0 ⌝ }
+{
+    let command = command_lines::parse(line);
+    let head = session.head;
+    let done = perform(head, session.live, storage, journal, command);
     let answer = done.answer;
     let next = done.head;
-    let mut at = used;
-    if !command_lines::has_room(out, used) {
-        flush(out, used);
-        at = 0;
-    }
-    Desk {
+    Session {
         kept: 0,
-        used: command_lines::put_answer(out, at, answer),
+        used: command_lines::put_answer(out, session.used, answer),
         head: next,
         live: done.live,
     }
 }
 
+// Answers the line that the buffer holds. Where the output has no room for an answer, it is written out before.
+fn one_line(
+    session: Session,
+    line: &[u8],
+    out: &mut [u8],
+    storage: &mut [u64],
+    journal: &mut [u32],
+) -> Session
+    requires { ⌜ session .kept ≤ length (now line) ⌝ }
+    ensures { λ r. ⌜ AnswersLine (take (session .kept) (now (line .entry))) (withRoom (state session (now (out .entry)) (now (storage .entry)) (now (journal .entry)))) (state r (now (out .exit)) (now (storage .exit)) (now (journal .exit))) ⌝ }
+    ensures { λ r. ⌜ r .kept ≡ 0 ⌝ }
+{
+    let kept = session.kept;
+    let used = session.used;
+    let mut next = session;
+    if !command_lines::has_room(out, used) {
+        flush(out, used);
+        next.used = 0;
+    }
+    answer_line(next, &line[..kept], out, storage, journal)
+}
+
 // Answers the lines that end in a part of the input.
 fn part(
-    desk: Desk,
+    session: Session,
     text: &[u8],
     line: &mut [u8],
     out: &mut [u8],
     storage: &mut [u64],
     journal: &mut [u32],
-) -> Desk {
+) -> Session
+    requires { ⌜ session .kept ≤ length (now line) ⌝ }
+    requires { ⌜ 27 < length (now line) ⌝ }
+    requires { ⌜ 12 ≤ length (now out) ⌝ }
+    ensures { λ r. ⌜ ((l : List ℕ) → Holds (now (line .entry)) (session .kept) l → Parts (now (text .entry)) l (state session (now (out .entry)) (now (storage .entry)) (now (journal .entry))) (state r (now (out .exit)) (now (storage .exit)) (now (journal .exit))) (r .kept) (now (line .exit))) ⌝ }
+    ensures { λ r. ⌜ r .kept ≤ length (now (line .exit)) ⌝ }
+{
     let mut at = 0;
-    let mut now = desk;
+    let mut now = session;
     while at < text.len() {
         let found = command_lines::gather(text, at, line, now.kept);
         at = found.at;
@@ -223,6 +248,25 @@ fn part(
     now
 }
 
+// At the input's end: what no newline ended is a line, unless there is nothing. It gets the newline that it lacks.
+fn last_line(
+    session: Session,
+    line: &mut [u8],
+    out: &mut [u8],
+    storage: &mut [u64],
+    journal: &mut [u32],
+) -> Session
+    requires { ⌜ session .kept ≤ length (now line) ⌝ }
+    requires { ⌜ 27 < length (now line) ⌝ }
+    requires { ⌜ 12 ≤ length (now out) ⌝ }
+    ensures { λ r. ⌜ ((l : List ℕ) → Holds (now (line .entry)) (session .kept) l → Ends l (state session (now (out .entry)) (now (storage .entry)) (now (journal .entry))) (state r (now (out .exit)) (now (storage .exit)) (now (journal .exit)))) ⌝ }
+{
+    if session.kept == 0 {
+        return session;
+    }
+    part(session, b"\n", line, out, storage, journal)
+}
+
 // Reads and answers until the input ends. What is answered is written out before each read, so that it appears at once.
 fn serve(
     input: &mut [u8],
@@ -230,8 +274,11 @@ fn serve(
     out: &mut [u8],
     storage: &mut [u64],
     journal: &mut [u32],
-) {
-    let mut desk = Desk {
+)
+    requires { ⌜ 27 < length (now line) ⌝ }
+    requires { ⌜ 12 ≤ length (now out) ⌝ }
+{
+    let mut session = Session {
         kept: 0,
         used: 0,
         head: Ledger {
@@ -253,14 +300,12 @@ fn serve(
         if n == 0 {
             break;
         }
-        desk = part(desk, &input[..n], line, out, storage, journal);
-        flush(out, desk.used);
-        desk.used = 0;
+        session = part(session, &input[..n], line, out, storage, journal);
+        flush(out, session.used);
+        session.used = 0;
     }
-    if desk.kept > 0 {
-        desk = one_line(desk, line, out, storage, journal);
-        flush(out, desk.used);
-    }
+    session = last_line(session, line, out, storage, journal);
+    flush(out, session.used);
 }
 
 fn main() {

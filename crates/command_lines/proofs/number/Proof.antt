@@ -8,7 +8,7 @@ use lib.ListN.{length, drop}
 use lib.Dec.{lit<}
 use lib.Arith.{lt-of-le-ne}
 use borrow.Author.Needs.{needs}
-use Rattle.command_lines.specs.Reading.{readAt}
+use Rattle.command_lines.specs.Inner.{readAt}
 use Rattle.command_lines.proofs.Fields.{first-space, first-end}
 use Rattle.command_lines.proofs.NumberFields.{ahead, ahead-none, ahead-end, ahead-digit, ahead-low, ahead-high, ahead-ten, below-ten, below-digit}
 use Rattle.command_lines.proofs.number.Statement.{statement}
@@ -30,13 +30,13 @@ loop-holds c = (omega arith, omega arith, rw sub-self (lit< tt), ahead-none _ _)
 shared-slice-read-b : tie.Need-shared-slice-read-b Inv-loop μ-loop
 shared-slice-read-b c = omega arith
 
-ended-requires : tie.Need-ended-requires Inv-loop μ-loop
-ended-requires c κs = search needs
+field-of-requires : tie.Need-field-of-requires Inv-loop μ-loop
+field-of-requires c κs = search needs
 
 returns : tie.Need-returns Inv-loop μ-loop
 returns c =
     let i = c .before .before .before .before .loop .inv in
-    c .ended .ensures ∙ sym (ahead-end _ _ _ _ (i .0) (i .1) (first-space _ _ (c .before .before .before .loop-test .taken) (c .before .if1 .taken))) ∙ i .3
+    c .field-of .ensures ∙ sym (ahead-end _ _ _ _ (i .0) (i .1) (first-space _ _ (c .before .before .before .loop-test .taken) (c .before .if1 .taken))) ∙ i .3
 
 returns-2 : tie.Need-returns-2 Inv-loop μ-loop
 returns-2 c = sym (ahead-low _ _ _ _ (c .before .before .before .loop-test .taken) (c .before .if1 .left) (c .if2 .taken)) ∙ c .before .before .before .before .loop .inv .3
@@ -76,13 +76,13 @@ loop-again c =
       sym (ahead-digit _ from at _ (i .0) (c .before .before .before .before .before .loop-test .taken) (c .before .before .if2 .left) (c .before .if3 .left)) ∙ i .3,
     )
 
-ended-requires-2 : tie.Need-ended-requires-2 Inv-loop μ-loop
-ended-requires-2 c κs = search needs
+field-of-requires-2 : tie.Need-field-of-requires-2 Inv-loop μ-loop
+field-of-requires-2 c κs = search needs
 
 returns-5 : tie.Need-returns-5 Inv-loop μ-loop
 returns-5 c =
     let i = c .before .before .loop .inv in
-    c .ended2 .ensures ∙ sym (ahead-end _ _ _ _ (i .0) (i .1) (first-end _ _ (c .before .loop-test .left))) ∙ i .3
+    c .field-of2 .ensures ∙ sym (ahead-end _ _ _ _ (i .0) (i .1) (first-end _ _ (c .before .loop-test .left))) ∙ i .3
 
 pub number-spec : {M : Type 1} → statement M
 number-spec =
@@ -92,7 +92,7 @@ number-spec =
     μ-loop
     loop-holds
     shared-slice-read-b
-    ended-requires
+    field-of-requires
     returns
     returns-2
     returns-3
@@ -104,5 +104,5 @@ number-spec =
     add-at
     loop-less
     loop-again
-    ended-requires-2
+    field-of-requires-2
     returns-5)

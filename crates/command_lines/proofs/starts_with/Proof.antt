@@ -4,7 +4,7 @@ use mathlib.Core.Path.{_≡_, refl, sym, _∙_}
 use Prim.Native.Nat.{_-_}
 use native.Mathlib.Omega.{arith}
 use lib.ListN.{length, drop}
-use Rattle.command_lines.specs.Reading.{starts}
+use Rattle.command_lines.specs.Inner.{starts}
 use Rattle.command_lines.proofs.Texts.{starts-next, starts-differ, starts-short, starts-whole}
 use Rattle.command_lines.proofs.starts_with.Statement.{statement}
 use Rattle.command_lines.proofs.starts_with.Tie as tie

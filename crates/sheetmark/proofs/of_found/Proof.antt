@@ -1,5 +1,7 @@
 -- `of_found` meets its contract. Assumes nothing.
-use Rattle.sheetmark.specs.Performing.{foundReply}
+use Rattle.range_bitset.specs.Answers.{ofPlace}
+use Rattle.range_bitset.specs.declared.Found.{Found as Place}
+use Rattle.sheetmark.specs.Performing.{answerOf, low32}
 use mathlib.Core.Path.{sym, ap}
 use borrow.Author.Needs.{needs}
 use Rattle.sheetmark.proofs.of_found.Statement.{statement}
@@ -18,13 +20,13 @@ enum-known-found-2 : tie.Need-enum-known-found-2
 enum-known-found-2 c = search needs
 
 returns : tie.Need-returns
-returns c = sym (ap foundReply (c .before .found .given .1))
+returns c = sym (ap (λ (p : Place). answerOf (low32 (ofPlace p))) (c .before .found .given .1))
 
 returns-2 : tie.Need-returns-2
 returns-2 c = search needs
 
 returns-3 : tie.Need-returns-3
-returns-3 c = sym (ap foundReply (c .before .found2 .given .1))
+returns-3 c = sym (ap (λ (p : Place). answerOf (low32 (ofPlace p))) (c .before .found2 .given .1))
 
 pub of-found-spec : {M : Type 1} → statement M
 of-found-spec =

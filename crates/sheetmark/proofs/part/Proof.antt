@@ -1,28 +1,37 @@
--- `part` meets its contract. The measure: what is left of the text. Assumes nothing.
-use Rattle.command_lines.proofs.Buffers.{gathers-moves}
-use lib.ListN.{length}
-use borrow.Author.Needs.{needs}
-use native.Mathlib.Omega.{arith}
-use Prim.Native.Nat.{_-_}
+-- `part` meets its contract. The invariant: the part is answered up to `at`. The measure: what is left of the text. Assumes
+-- nothing.
 use mathlib.Core.Path.{_≡_, refl, _∙_}
+use mathlib.Core.List.{List}
+use Prim.Native.Nat.{ℕ, _-_, _≤_}
+use native.Mathlib.Omega.{arith}
+use borrow.Author.Needs.{needs}
+use lib.ListN.{length}
+use Rattle.command_lines.specs.Input.{Holds}
+use Rattle.command_lines.proofs.Buffers.{gathers-moves, gathers-fits}
+use Rattle.sheetmark.specs.Answering.{state}
+use Rattle.sheetmark.proofs.Answering.{SoFar, so-far-none, so-far-line, so-far-open, so-far-all}
 use Rattle.sheetmark.proofs.part.Statement.{statement}
 use Rattle.sheetmark.proofs.part.Tie as tie
 
 abbrev Inv-loop : tie.InvT-loop
 Inv-loop text line₀ out₀ storage₀ journal₀ at₀ now₀ line out storage journal at now =
     (length line ≡ length line₀) × (length out ≡ length out₀) × (length storage ≡ length storage₀) × (length journal ≡ length journal₀)
+    × (now .kept ≤ length line)
+    × ((l : List ℕ) → Holds line₀ (now₀ .kept) l → SoFar text l at (state now₀ out₀ storage₀ journal₀) (state now out storage journal) (now .kept) line)
 
 abbrev μ-loop : tie.MeasureT-loop
 μ-loop text line₀ out₀ storage₀ journal₀ at₀ now₀ line out storage journal at now = length text - at
 
 loop-holds : tie.Need-loop-holds Inv-loop μ-loop
-loop-holds c = (refl, refl, refl, refl)
+loop-holds c = (refl, refl, refl, refl, c .before .before .before .before .before .pre .0, λ l h. so-far-none _ _ _ _ _ h)
 
 gather-requires : tie.Need-gather-requires Inv-loop μ-loop
 gather-requires c κs = search needs
 
 one-line-requires : tie.Need-one-line-requires Inv-loop μ-loop
-one-line-requires c κs = search needs
+one-line-requires c κs =
+    let g = c .before .before .before .before .before .before .before .gather in
+    omega (arith, gathers-fits _ _ _ _ _ _ (g .ensures) (c .before .before .before .before .before .before .before .before .before .before .loop .inv .4), g .kept .1 .1 .0)
 
 loop-less : tie.Need-loop-less Inv-loop μ-loop
 loop-less c =
@@ -31,7 +40,18 @@ loop-less c =
 
 loop-again : tie.Need-loop-again Inv-loop μ-loop
 loop-again c =
-    (c .before .before .before .before .before .before .before .before .before .before .before .before .before .before .gather .kept .1 .1 .0 ∙ c .before .before .before .before .before .before .before .before .before .before .before .before .before .before .before .before .before .loop .inv .0, c .before .before .before .before .before .before .one-line .kept .1 .1 .0 ∙ c .before .before .before .before .before .before .before .before .before .before .before .before .before .before .before .before .before .loop .inv .1, c .before .before .before .before .before .before .one-line .kept .1 .1 .1 .0 ∙ c .before .before .before .before .before .before .before .before .before .before .before .before .before .before .before .before .before .loop .inv .2, c .before .before .before .before .before .before .one-line .kept .1 .1 .1 .1 .0 ∙ c .before .before .before .before .before .before .before .before .before .before .before .before .before .before .before .before .before .loop .inv .3)
+    let i = c .before .before .before .before .before .before .before .before .before .before .before .before .before .before .before .before .before .loop .inv in
+    let g = c .before .before .before .before .before .before .before .before .before .before .before .before .before .before .gather in
+    let o = c .before .before .before .before .before .before .one-line in
+    let pre = c .before .before .before .before .before .before .before .before .before .before .before .before .before .before .before .before .before .before .before .before .before .before .before .pre in (
+      g .kept .1 .1 .0 ∙ i .0,
+      o .kept .1 .1 .0 ∙ i .1,
+      o .kept .1 .1 .1 .0 ∙ i .2,
+      o .kept .1 .1 .1 .1 .0 ∙ i .3,
+      omega (arith, o .ensures .1),
+      λ l h.
+          so-far-line _ _ _ _ _ _ _ (g .result) _ (i .5 l h) (g .ensures) (c .before .before .before .before .before .before .before .before .before .before .before .if1 .taken) (omega (arith, g .kept .1 .1 .0, i .0, pre .1 .0)) (omega (arith, i .1, pre .1 .1)) _ _ _ (o .ensures .1) (o .ensures .0) refl,
+    )
 
 loop-less-2 : tie.Need-loop-less-2 Inv-loop μ-loop
 loop-less-2 c =
@@ -39,7 +59,16 @@ loop-less-2 c =
     omega (arith, m .0, m .1)
 
 loop-again-2 : tie.Need-loop-again-2 Inv-loop μ-loop
-loop-again-2 c = (c .before .before .before .gather .kept .1 .1 .0 ∙ c .before .before .before .before .before .before .loop .inv .0, c .before .before .before .before .before .before .loop .inv .1, c .before .before .before .before .before .before .loop .inv .2, c .before .before .before .before .before .before .loop .inv .3)
+loop-again-2 c =
+    let i = c .before .before .before .before .before .before .loop .inv in
+    let g = c .before .before .before .gather in (
+      g .kept .1 .1 .0 ∙ i .0,
+      i .1,
+      i .2,
+      i .3,
+      omega (arith, gathers-fits _ _ _ _ _ _ (g .ensures) (i .4), g .kept .1 .1 .0),
+      λ l h. so-far-open _ _ _ _ _ _ _ (g .result) _ (i .5 l h) (g .ensures) (c .if1 .left),
+    )
 
 same-length : tie.Need-same-length Inv-loop μ-loop
 same-length c = c .before .loop .inv .0
@@ -54,7 +83,7 @@ same-length-4 : tie.Need-same-length-4 Inv-loop μ-loop
 same-length-4 c = c .before .loop .inv .3
 
 returns : tie.Need-returns Inv-loop μ-loop
-returns c = tt
+returns c = (λ l h. so-far-all _ _ _ _ _ _ _ (c .loop-test .left) (c .before .loop .inv .5 l h), c .before .loop .inv .4)
 
 pub part-spec : {M : Type 1} → statement M
 part-spec =

@@ -6,8 +6,8 @@ use Rattle.sheetmark.proofs.perform.Tie as tie
 perform-live-requires : tie.Need-perform-live-requires
 perform-live-requires c κs = search needs
 
-perform-first-requires : tie.Need-perform-first-requires
-perform-first-requires c κs = search needs
+perform-before-new-requires : tie.Need-perform-before-new-requires
+perform-before-new-requires c κs = search needs
 
 same-length : tie.Need-same-length
 same-length c = search needs
@@ -25,14 +25,14 @@ same-length-4 : tie.Need-same-length-4
 same-length-4 c = search needs
 
 returns-2 : tie.Need-returns-2
-returns-2 c = rw (c .before .before .before .if1 .left) (c .perform-first .ensures)
+returns-2 c = rw (c .before .before .before .if1 .left) (c .perform-before-new .ensures)
 
 pub perform-spec : {M : Type 1} → statement M
 perform-spec =
     tie.close
     (tie.spec
     perform-live-requires
-    perform-first-requires
+    perform-before-new-requires
     same-length
     same-length-2
     returns

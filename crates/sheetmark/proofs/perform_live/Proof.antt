@@ -1,5 +1,5 @@
 -- `perform_live` meets its contract: each arm is the promise of the call that it makes. Assumes nothing.
-use Rattle.sheetmark.proofs.Performing.{performed, by-call, count-answers, found-answers}
+use Rattle.sheetmark.proofs.Performing.{performed, by-call, by-count, by-search}
 use mathlib.Core.Path.{refl}
 use borrow.Author.Needs.{needs}
 use Rattle.sheetmark.proofs.perform_live.Statement.{statement}
@@ -8,8 +8,8 @@ use Rattle.sheetmark.proofs.perform_live.Tie as tie
 enum-known-command : tie.Need-enum-known-command
 enum-known-command c = search needs
 
-start-requires : tie.Need-start-requires
-start-requires c κs = search needs
+new-ledger-requires : tie.Need-new-ledger-requires
+new-ledger-requires c κs = search needs
 
 enum-known-command-2 : tie.Need-enum-known-command-2
 enum-known-command-2 c = search needs
@@ -114,7 +114,7 @@ same-length-2 : tie.Need-same-length-2
 same-length-2 c = search needs
 
 returns : tie.Need-returns
-returns c = performed _ _ _ _ _ _ _ (c .before .before .before .before .command .given .1) (c .start .ensures)
+returns c = performed _ _ _ _ _ _ _ (c .before .before .before .before .command .given .1) (c .new-ledger .ensures)
 
 same-length-3 : tie.Need-same-length-3
 same-length-3 c = search needs
@@ -141,21 +141,21 @@ same-length-7 c = search needs
 
 returns-4 : tie.Need-returns-4
 returns-4 c =
-    performed _ _ _ _ _ _ _ (c .before .before .before .before .command4 .given .1) (record { same-live = refl; same = refl; answers = count-answers _ _ _ _ (c .before .count .result) _ (c .before .count .ensures) (c .of-counted .ensures) })
+    performed _ _ _ _ _ _ _ (c .before .before .before .before .command4 .given .1) (by-count _ _ _ (c .before .count .result) _ (c .before .count .ensures) (c .of-counted .ensures))
 
 same-length-8 : tie.Need-same-length-8
 same-length-8 c = search needs
 
 returns-5 : tie.Need-returns-5
 returns-5 c =
-    performed _ _ _ _ _ _ _ (c .before .before .before .before .command5 .given .1) (record { same-live = refl; same = refl; answers = found-answers _ _ _ _ _ (c .before .next-one .result) _ (c .before .next-one .ensures) (c .of-found .ensures) })
+    performed _ _ _ _ _ _ _ (c .before .before .before .before .command5 .given .1) (by-search _ _ _ _ (c .before .next-one .result) _ (c .before .next-one .ensures) (c .of-found .ensures))
 
 same-length-9 : tie.Need-same-length-9
 same-length-9 c = search needs
 
 returns-6 : tie.Need-returns-6
 returns-6 c =
-    performed _ _ _ _ _ _ _ (c .before .before .before .before .command6 .given .1) (record { same-live = refl; same = refl; answers = found-answers _ _ _ _ _ (c .before .next-zero .result) _ (c .before .next-zero .ensures) (c .of-found2 .ensures) })
+    performed _ _ _ _ _ _ _ (c .before .before .before .before .command6 .given .1) (by-search _ _ _ _ (c .before .next-zero .result) _ (c .before .next-zero .ensures) (c .of-found2 .ensures))
 
 same-length-10 : tie.Need-same-length-10
 same-length-10 c = search needs
@@ -183,7 +183,7 @@ perform-live-spec =
     tie.close
     (tie.spec
     enum-known-command
-    start-requires
+    new-ledger-requires
     enum-known-command-2
     cast-mark
     cast-mark-2

@@ -4,18 +4,21 @@ use mathlib.Core.Logic.{⊎-elim}
 use denote.Ref.{now}
 use borrow.Author.Needs.{needs}
 use lib.ListN.{length}
+use Prim.Native.Nat.{_≤_}
+use native.Mathlib.Omega.{arith}
 use Rattle.sheetmark.proofs.serve.Statement.{statement}
 use Rattle.sheetmark.proofs.serve.Tie as tie
 
 abbrev Inv-loop : tie.InvT-loop
-Inv-loop input₀ line₀ out₀ storage₀ journal₀ desk₀ turns₀ input line out storage journal desk turns =
+Inv-loop input₀ line₀ out₀ storage₀ journal₀ session₀ turns₀ input line out storage journal session turns =
     (length input ≡ length input₀) × (length line ≡ length line₀) × (length out ≡ length out₀) × (length storage ≡ length storage₀) × (length journal ≡ length journal₀)
+    × (session .kept ≤ length line)
 
 abbrev μ-loop : tie.MeasureT-loop
-μ-loop input₀ line₀ out₀ storage₀ journal₀ desk₀ turns₀ input line out storage journal desk turns = turns
+μ-loop input₀ line₀ out₀ storage₀ journal₀ session₀ turns₀ input line out storage journal session turns = turns
 
 loop-holds : tie.Need-loop-holds Inv-loop μ-loop
-loop-holds c = (refl, refl, refl, refl, refl)
+loop-holds c = (refl, refl, refl, refl, refl, omega arith)
 
 sub-turns : tie.Need-sub-turns Inv-loop μ-loop
 sub-turns c = search needs
@@ -44,8 +47,8 @@ loop-less c = search needs
 loop-again : tie.Need-loop-again Inv-loop μ-loop
 loop-again c = search needs
 
-one-line-requires : tie.Need-one-line-requires Inv-loop μ-loop
-one-line-requires c κs = search needs
+last-line-requires : tie.Need-last-line-requires Inv-loop μ-loop
+last-line-requires c κs = search needs
 
 flush-requires-2 : tie.Need-flush-requires-2 Inv-loop μ-loop
 flush-requires-2 c κs = search needs
@@ -74,24 +77,6 @@ same-length-5 c = search needs
 returns : tie.Need-returns Inv-loop μ-loop
 returns c = search needs
 
-same-length-6 : tie.Need-same-length-6 Inv-loop μ-loop
-same-length-6 c = left (c .before .before)
-
-same-length-7 : tie.Need-same-length-7 Inv-loop μ-loop
-same-length-7 c = search needs
-
-same-length-8 : tie.Need-same-length-8 Inv-loop μ-loop
-same-length-8 c = search needs
-
-same-length-9 : tie.Need-same-length-9 Inv-loop μ-loop
-same-length-9 c = search needs
-
-same-length-10 : tie.Need-same-length-10 Inv-loop μ-loop
-same-length-10 c = search needs
-
-returns-2 : tie.Need-returns-2 Inv-loop μ-loop
-returns-2 c = search needs
-
 pub serve-spec : {M : Type 1} → statement M
 serve-spec =
     tie.close
@@ -108,17 +93,11 @@ serve-spec =
     flush-requires
     loop-less
     loop-again
-    one-line-requires
+    last-line-requires
     flush-requires-2
     same-length
     same-length-2
     same-length-3
     same-length-4
     same-length-5
-    returns
-    same-length-6
-    same-length-7
-    same-length-8
-    same-length-9
-    same-length-10
-    returns-2)
+    returns)

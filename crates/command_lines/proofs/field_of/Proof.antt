@@ -1,11 +1,11 @@
--- `command_lines::ended` meets its contract: each return is the case of `finish` that its tests say. Assumes nothing.
+-- `command_lines::field_of` meets its contract: each return is the case of `finish` that its tests say. Assumes nothing.
 use borrow.Author.Tests.{eq-eqb, ne-eqb, lt-ltb, le-ltb}
 use native.Mathlib.Omega.{arith}
 use Prim.Native.Nat.{_^_}
-use Rattle.command_lines.specs.Reading.{finish}
+use Rattle.command_lines.specs.Inner.{finish}
 use borrow.Author.Needs.{needs}
-use Rattle.command_lines.proofs.ended.Statement.{statement}
-use Rattle.command_lines.proofs.ended.Tie as tie
+use Rattle.command_lines.proofs.field_of.Statement.{statement}
+use Rattle.command_lines.proofs.field_of.Tie as tie
 
 returns : tie.Need-returns
 unfolding finish
@@ -22,5 +22,5 @@ returns-3 : tie.Need-returns-3
 unfolding finish
 returns-3 c = simp (ne-eqb _ _ (c .before .if1 .left), lt-ltb (c .before .before .args .value) (2 ^ 32) (omega arith))
 
-pub ended-spec : {M : Type 1} → statement M
-ended-spec = tie.close (tie.spec returns returns-2 cast-t5 returns-3)
+pub field-of-spec : {M : Type 1} → statement M
+field-of-spec = tie.close (tie.spec returns returns-2 cast-t5 returns-3)

@@ -1,4 +1,5 @@
--- What the inner steps of the reader answer, said over the line's fields. No public contract speaks of these. Assumes nothing.
+-- Contracts of the inner functions, said over the line's fields. No caller of the crate sees them, and nothing here need be
+-- believed: the promises of `parse` and of the rest speak of none of it. Assumes nothing.
 use mathlib.Core.Bool.{Bool, true, false, cond, _&&_}
 use mathlib.Core.List.{List, [], _∷_}
 use Prim.Native.Nat.{ℕ, _+_, _^_}

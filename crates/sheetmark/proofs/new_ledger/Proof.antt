@@ -1,9 +1,9 @@
--- `start` meets its contract. Assumes nothing.
+-- `new_ledger` meets its contract. Assumes nothing.
 use Rattle.sheetmark.proofs.Performing.{started}
 use mathlib.Core.Path.{refl, sym, _∙_}
 use borrow.Author.Needs.{needs}
-use Rattle.sheetmark.proofs.start.Statement.{statement}
-use Rattle.sheetmark.proofs.start.Tie as tie
+use Rattle.sheetmark.proofs.new_ledger.Statement.{statement}
+use Rattle.sheetmark.proofs.new_ledger.Tie as tie
 
 new-requires : tie.Need-new-requires
 new-requires c κs = search needs
@@ -26,7 +26,7 @@ returns-2 c = started _ _ _ _ _ _ _ (sym (c .before .before .before .new .ensure
 returns-3 : tie.Need-returns-3
 returns-3 c = started _ _ _ _ _ _ _ (sym (c .before .before .new .ensures) ∙ c .enum-told .given .1) (refl, refl, refl)
 
-pub start-spec : {M : Type 1} → statement M
-start-spec =
+pub new-ledger-spec : {M : Type 1} → statement M
+new-ledger-spec =
     tie.close
     (tie.spec new-requires enum-known-fresh enum-known-k enum-told returns returns-2 returns-3)
