@@ -6,7 +6,7 @@ use Prim.Native.Nat.{ℕ}
 use Rattle.range_bitset.specs.Answers as reply
 use Rattle.ledger.specs.Machine.{Call, Wipe}
 use Rattle.ledger.specs.Memory.{memory}
-use Rattle.ledger.specs.Entries.{Called as CallEnsures, OpenEnsures}
+use Rattle.ledger.specs.Entries.{CallEnsures, OpenEnsures}
 use Rattle.ledger.specs.declared.Ledger.{Ledger}
 use Rattle.ledger.specs.declared.Called.{Called}
 use Rattle.ledger.specs.declared.Opened.{Opened}

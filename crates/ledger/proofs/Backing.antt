@@ -22,7 +22,7 @@ use Rattle.range_bitset.specs.declared.Assigned.{Assigned}
 use Rattle.ledger.specs.Machine.{Machine, Standing, Call, Range, Back, Wipe, held, setOf, population, needs, used, made, Stands, Made, withStanding, step}
 use Rattle.ledger.specs.Journal.{entry, written, journalOf}
 use Rattle.ledger.specs.Memory.{Memory, memory, Holds, lentRefusal, wipeRefusal, callRefusal}
-use Rattle.ledger.specs.Entries.{Called, ofAnswer, restores, flagAfter}
+use Rattle.ledger.specs.Entries.{CallEnsures, ofAnswer, restores, flagAfter}
 use Rattle.ledger.specs.Inner.{lastOf, readRuns, changedByRuns, Within, AssignsRuns}
 use Rattle.ledger.specs.declared.Ledger.{Ledger}
 use Rattle.ledger.specs.declared.Last.{Last}
@@ -35,7 +35,7 @@ use Rattle.ledger.proofs.Refusals.{LentEnough, lent-accepted, lent-agai
 -- ---- a call that the table refuses, given that the machine refuses it too
 
 pub refused-call : (c : Call) (x : Memory) (k : ℕ) → k ≡ callRefusal c x → (k ≡ 0 → ⊥)
-    → ((m : Machine) → Holds x m → step m c ≡ stayed m k) → Called c x (Refusal k) x
+    → ((m : Machine) → Holds x m → step m c ≡ stayed m k) → CallEnsures c x (Refusal k) x
 refused-call c x k e z f =
     record {
       refuses = λ w. ap Refusal e;
@@ -56,7 +56,7 @@ refused-call c x k e z f =
 -- ---- `wipe`
 
 module _ (h : Ledger) (st j : List ℕ) where
-  pub wipe-refused : (k : ℕ) → k ≡ wipeRefusal h (length st) → (k ≡ 0 → ⊥) → Called Wipe (memory h st j) (Refusal k) (memory h st j)
+  pub wipe-refused : (k : ℕ) → k ≡ wipeRefusal h (length st) → (k ≡ 0 → ⊥) → CallEnsures Wipe (memory h st j) (Refusal k) (memory h st j)
   unfolding callRefusal
   wipe-refused k e z =
       refused-call Wipe (memory h st j) k e z
@@ -69,7 +69,7 @@ module _ (h : Ledger) (st j : List ℕ) where
     ok : _≡_ {A = ℕ} (storageRefusal (h .set) (length st)) 0
     ok = let a = wipe-accepted h (length st) z in set-accepts h (length st) (a .good) (a .long)
 
-    pub wiped : Called Wipe (memory h st j) (ofCounted (r .answer)) (memory (record { set = r .head; journal = h .journal; used = 0 }) st′ j)
+    pub wiped : CallEnsures Wipe (memory h st j) (ofCounted (r .answer)) (memory (record { set = r .head; journal = h .journal; used = 0 }) st′ j)
     unfolding callRefusal population setOf used step
     wiped =
         record {
@@ -186,12 +186,12 @@ module _ (j l : List ℕ) (rs : List Run) (w : Bool) (u n : ℕ) (v : Bool) (roo
 -- ---- `take_back`
 
 module _ (h : Ledger) (st j : List ℕ) where
-  pub back-refused : (k : ℕ) → k ≡ lentRefusal h (length st) (length j) → (k ≡ 0 → ⊥) → Called Back (memory h st j) (Refusal k) (memory h st j)
+  pub back-refused : (k : ℕ) → k ≡ lentRefusal h (length st) (length j) → (k ≡ 0 → ⊥) → CallEnsures Back (memory h st j) (Refusal k) (memory h st j)
   unfolding callRefusal
   back-refused k e z =
       refused-call Back (memory h st j) k (rw (sym e, ne-eqb k 0 z)) z (λ m q. absurd (z (e ∙ q .lent)))
 
-  pub back-none : lentRefusal h (length st) (length j) ≡ 0 → h .used ≡ 0 → Called Back (memory h st j) (Refusal 5) (memory h st j)
+  pub back-none : lentRefusal h (length st) (length j) ≡ 0 → h .used ≡ 0 → CallEnsures Back (memory h st j) (Refusal 5) (memory h st j)
   unfolding callRefusal
   back-none z e =
       refused-call Back (memory h st j) 5 (rw (z, eq-eqb (h .used) 0 e)) (λ w. omega arith)
@@ -300,7 +300,7 @@ module _ (h : Ledger) (st j : List ℕ) where
           journal = d .journal;
         }
 
-    pub taken-back : Called Back (memory h st j) (Number count-back) after
+    pub taken-back : CallEnsures Back (memory h st j) (Number count-back) after
     unfolding callRefusal
     taken-back =
         record {

@@ -12,7 +12,7 @@ use Rattle.positions.proofs.Counts.{count-none}
 use Rattle.range_bitset.specs.Answers.{Reply, Number, Nothing, Refusal}
 use Rattle.ledger.specs.Machine.{Machine, Standing, Call, Range, Back, Wipe, setOf, made, Verdict, Accepted, Declined, rangeVerdict, standsAny, decided, step, after, changedBy}
 use Rattle.ledger.specs.Memory.{Memory, Holds}
-use Rattle.ledger.specs.Entries.{Called, ofAnswer, restores, flagAfter}
+use Rattle.ledger.specs.Entries.{CallEnsures, ofAnswer, restores, flagAfter}
 use Rattle.ledger.specs.History.{Begun, by-new, by-open, Chain, none, call}
 use Rattle.ledger.proofs.Machines.{set-inside}
 use Rattle.ledger.proofs.Histories.{begun}
@@ -65,14 +65,14 @@ module _ (x : Memory) (m : Machine) (q : Holds x m) (u : Unmarked x m) where
         let z = u (or-clear (flagOf x) (restores (m .standing)) (sym (g ∙ rw p) ∙ f)) in
         rw k (omega (arith, ap (changedBy false) k))
 
-  pub unmarked-step : (c : Call) (r : Reply) (y : Memory) → Called c x r y → Unmarked y (step m c .next)
+  pub unmarked-step : (c : Call) (r : Reply) (y : Memory) → CallEnsures c x r y → Unmarked y (step m c .next)
   unfolding step
   unmarked-step (Range a e v) r y k = unmarked-range r y a e v (rangeVerdict m a e v) (k .answers m q) (k .flag m q)
   unmarked-step Back r y k = unmarked-back r y (m .standing) refl (k .answers m q) (k .flag m q)
   unmarked-step Wipe r y k = λ f. refl
 
   -- take-back keeps the flag
-  pub flag-kept : (r : Reply) (y : Memory) → Called Back x r y → flagOf y ≡ flagOf x
+  pub flag-kept : (r : Reply) (y : Memory) → CallEnsures Back x r y → flagOf y ≡ flagOf x
   flag-kept r y k = k .flag m q ∙ by r (flagOf x) refl
     where
       nothing : (l : List Standing) → changedBy false l ≡ 0 → restores l ≡ false
@@ -99,7 +99,7 @@ unmarked-chain x y m cs rs q u (call {y = z} {c = c} {r = r} k ks) =
 
 -- so take-back keeps the flag after every list of calls from what new or open has just given
 pub flag-kept-after : (start end next : Memory) (m : Machine) (cs : List Call) (rs : List Reply) (r : Reply)
-    → Begun start m → Chain start cs rs end → Called Back end r next → flagOf next ≡ flagOf end
+    → Begun start m → Chain start cs rs end → CallEnsures Back end r next → flagOf next ≡ flagOf end
 flag-kept-after start end next m cs rs r b ks k =
     let z = unmarked-chain start end m cs rs (begun start m b) (unmarked-begun start m b) ks in
     flag-kept end (after m cs .last) (z .0) (z .1) r next k

@@ -23,7 +23,7 @@ use Rattle.range_bitset.specs.declared.Counted.the-variants as counted
 use Rattle.ledger.specs.Machine.{Machine, Range, setOf, used, needOf, step, nextOf}
 use Rattle.ledger.specs.Journal.{journalOf}
 use Rattle.ledger.specs.Memory.{Memory, memory, lentRefusal, callRefusal, Holds}
-use Rattle.ledger.specs.Entries.{Called, flagAfter}
+use Rattle.ledger.specs.Entries.{CallEnsures, flagAfter}
 use Rattle.ledger.specs.Inner.{RunsFit, WritesCall}
 use Rattle.ledger.specs.declared.Ledger.{Ledger}
 use Rattle.ledger.proofs.Machines.{stayed, went, step-outside, step-full, step-range, kept-step, set-after-range, needs-added, journal-added}
@@ -66,7 +66,7 @@ module _ (h : Ledger) (st j : List ℕ) (a e : ℕ) (v : Bool) where
   -- ---- refused: nothing is changed
 
   pub not-lent : (k : ℕ) (r : Counted) (h′ : Ledger) → r ≡ counted.Refused k → h′ ≡ h → k ≡ lentRefusal h (length st) (length j) → (k ≡ 0 → ⊥)
-      → Called (Range a e v) before (ofCounted r) (memory h′ st j)
+      → CallEnsures (Range a e v) before (ofCounted r) (memory h′ st j)
   not-lent k r h′ p q l n =
       declined-as (Range a e v) h st j k r h′ p q
       (record {
@@ -81,7 +81,7 @@ module _ (h : Ledger) (st j : List ℕ) (a e : ℕ) (v : Bool) where
       })
 
   pub outside : (r : Counted) (h′ : Ledger) → r ≡ counted.Refused 4 → h′ ≡ h → lentRefusal h (length st) (length j) ≡ 0 → capacityOf (h .set) < e
-      → Called (Range a e v) before (ofCounted r) (memory h′ st j)
+      → CallEnsures (Range a e v) before (ofCounted r) (memory h′ st j)
   outside r h′ p q l n =
       declined-as (Range a e v) h st j 4 r h′ p q
       (record {
@@ -102,7 +102,7 @@ module _ (h : Ledger) (st j : List ℕ) (a e : ℕ) (v : Bool) where
   full : (r : Counted) (h′ : Ledger) → r ≡ counted.Refused 6 → h′ ≡ h → lentRefusal h (length st) (length j) ≡ 0 → e ≤ capacityOf (h .set)
       → ((callRefusal (Range a e v) before ≡ 0 → ⊥) → callRefusal (Range a e v) before ≡ 6)
       → ((s : Positions) → Represents (h .set) st s → h .journal - h .used < needOf s a e v)
-      → Called (Range a e v) before (ofCounted r) (memory h′ st j)
+      → CallEnsures (Range a e v) before (ofCounted r) (memory h′ st j)
   full r h′ p q l n six more =
       declined-as (Range a e v) h st j 6 r h′ p q
       (record {
@@ -121,14 +121,14 @@ module _ (h : Ledger) (st j : List ℕ) (a e : ℕ) (v : Bool) where
 
   -- none is left
   pub none-left : (r : Counted) (h′ : Ledger) → r ≡ counted.Refused 6 → h′ ≡ h → lentRefusal h (length st) (length j) ≡ 0 → e ≤ capacityOf (h .set)
-      → h .used ≡ h .journal → Called (Range a e v) before (ofCounted r) (memory h′ st j)
+      → h .used ≡ h .journal → CallEnsures (Range a e v) before (ofCounted r) (memory h′ st j)
   unfolding needOf
   none-left r h′ p q l n o = full r h′ p q l n (λ z. call-none-left l n o) (λ s x. omega arith)
 
   -- more runs than fit
   pub too-many : (most : ℕ) (fit : Bool) (r : Counted) (h′ : Ledger) → r ≡ counted.Refused 6 → h′ ≡ h → lentRefusal h (length st) (length j) ≡ 0
       → e ≤ capacityOf (h .set) → (h .used ≡ h .journal → ⊥) → most ≡ (h .journal - h .used - 1) / 2 → RunsFit (h .set) st a e v most fit → fit ≡ false
-      → Called (Range a e v) before (ofCounted r) (memory h′ st j)
+      → CallEnsures (Range a e v) before (ofCounted r) (memory h′ st j)
   unfolding needOf
   too-many most fit r h′ p q l n some o c d =
       full r h′ p q l n (λ z. absurd (z (call-passes l n some)))
@@ -213,7 +213,7 @@ module _ (h : Ledger) (st j : List ℕ) (a e : ℕ) (v : Bool) where
         rw (changes .answers passes (setOf m) (x .set))
         (ap (λ (y : RangeBitset). y .allocated) (changes .head passes (setOf m) (x .set)))
 
-    pub recorded : Called (Range a e v) before (ofCounted (r .answer)) next
+    pub recorded : CallEnsures (Range a e v) before (ofCounted (r .answer)) next
     recorded =
         record {
           refuses = λ z. absurd (z (call-passes lent end-within some));

@@ -19,13 +19,13 @@ use Rattle.range_bitset.specs.declared.RangeBitset.{RangeBitset}
 use Rattle.range_bitset.proofs.Heads.{good-bounds}
 use Rattle.ledger.specs.Machine.{Call}
 use Rattle.ledger.specs.Memory.{memory, goodLedger, lentEnough, lentRefusal, wipeRefusal}
-use Rattle.ledger.specs.Entries.{Called}
+use Rattle.ledger.specs.Entries.{CallEnsures}
 use Rattle.ledger.specs.declared.Ledger.{Ledger}
 
 -- ---- the answer and the head as `declined` gives them
 
 pub declined-as : (c : Call) (h : Ledger) (st j : List ℕ) (k : ℕ) (r : Counted) (h′ : Ledger) → r ≡ counted.Refused k → h′ ≡ h
-    → Called c (memory h st j) (Refusal k) (memory h st j) → Called c (memory h st j) (ofCounted r) (memory h′ st j)
+    → CallEnsures c (memory h st j) (Refusal k) (memory h st j) → CallEnsures c (memory h st j) (ofCounted r) (memory h′ st j)
 declined-as c h st j k r h′ p q d = rw (p, q) d
 
 -- ---- what is lent is enough

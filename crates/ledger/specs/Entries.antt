@@ -44,7 +44,7 @@ flagAfter x m Back Nothing = x
 flagAfter x m Back (Refusal k) = x
 flagAfter x m Wipe r = x
 
-pub record Called (c : Call) (before : Memory) (r : Reply) (next : Memory) : Type 0 where
+pub record CallEnsures (c : Call) (before : Memory) (r : Reply) (next : Memory) : Type 0 where
   -- on any memory: 2, 3, 4 and 5 exactly as the table has them, and 6 where no number is left; 6 is the only other refusal, and
   -- only of a marking or clearing
   pub refuses : (callRefusal c before ≡ 0 → ⊥) → r ≡ Refusal (callRefusal c before)

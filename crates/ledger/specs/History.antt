@@ -13,7 +13,7 @@ use Rattle.range_bitset.specs.declared.Found.{Found as Place}
 use Rattle.saved_list.specs.Format.{savedCapacity, savedPositions}
 use Rattle.ledger.specs.Machine.{Machine, fresh, openedWith, Call, Outcome, after, setOf, population, used, changedBy}
 use Rattle.ledger.specs.Memory.{Memory, memory}
-use Rattle.ledger.specs.Entries.{ofAnswer, Called, newOf, OpenEnsures}
+use Rattle.ledger.specs.Entries.{ofAnswer, CallEnsures, newOf, OpenEnsures}
 use Rattle.ledger.specs.declared.Ledger.{Ledger}
 use Rattle.ledger.specs.declared.Opened.the-variants as opened
 
@@ -28,7 +28,7 @@ pub data Begun : Memory → Machine → Type 0 where
 pub data Chain : Memory → List Call → List Reply → Memory → Type 0 where
   none : {x : Memory} → Chain x [] [] x
   call : {x y z : Memory} {c : Call} {r : Reply} {cs : List Call} {rs : List Reply}
-      → Called c x r y → Chain y cs rs z → Chain x (c ∷ cs) (r ∷ rs) z
+      → CallEnsures c x r y → Chain y cs rs z → Chain x (c ∷ cs) (r ∷ rs) z
 
 -- the answers, and what can be asked of the memory afterwards, agree with the plain machine's outcome
 pub record Agrees (o : Outcome) (replies : List Reply) (x : Memory) : Type 0 where

@@ -12,7 +12,7 @@ ghost use Rattle.range_bitset.specs.Answers.{ofCounted};
 ghost use Rattle.range_bitset.specs.declared.Counted.the-variants as counted;
 ghost use Rattle.ledger.specs.Machine.{Range, Back, Wipe, point};
 ghost use Rattle.ledger.specs.Memory.{memory, goodLedger, lentEnough, lentRefusal, wipeRefusal};
-ghost use Rattle.ledger.specs.Entries.{Called as CallEnsures, newOf, OpenEnsures};
+ghost use Rattle.ledger.specs.Entries.{CallEnsures, newOf, OpenEnsures};
 ghost use Rattle.ledger.specs.Inner.{Finds, RunsFit, CountsRuns, WritesCall, WritesRuns, readRuns, AssignsRuns, OpensRuns, lastOf, placeIn, countIn};
 use range_bitset::Counted;
 use range_bitset::Found;

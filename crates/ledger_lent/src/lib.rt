@@ -6,7 +6,7 @@ ghost use Prim.Native.Nat.{ℕ};
 ghost use Rattle.range_bitset.specs.Answers.{ofCounted};
 ghost use Rattle.ledger.specs.Machine.{Range, Back, Wipe};
 ghost use Rattle.ledger.specs.Memory.{memory};
-ghost use Rattle.ledger.specs.Entries.{Called as CallEnsures};
+ghost use Rattle.ledger.specs.Entries.{CallEnsures};
 ghost use Rattle.ledger.specs.History.{Chain};
 use ledger::Called;
 use ledger::Ledger;

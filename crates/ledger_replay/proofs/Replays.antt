@@ -11,7 +11,7 @@ use Rattle.range_bitset.specs.Answers.{Reply}
 use Rattle.saved_list.specs.Format.{savedCapacity, savedPositions}
 use Rattle.ledger.specs.Machine.{Machine, fresh, openedWith, Call, Wipe}
 use Rattle.ledger.specs.Memory.{Memory, memory, Holds}
-use Rattle.ledger.specs.Entries.{Called, newOf, refusalOf, OpenEnsures}
+use Rattle.ledger.specs.Entries.{CallEnsures, newOf, refusalOf, OpenEnsures}
 use Rattle.ledger.specs.History.{by-new, Chain, none, call}
 use Rattle.ledger_replay.specs.Replay.{Encoded, callOf, callsTo, fitting, codeOf, refusalIn, Replays, GivenByNew, GivenByOpen, ReplaysNew, ReplaysOpen}
 use Rattle.ledger_replay.specs.Inner.{Chained, Continues}
@@ -24,17 +24,17 @@ use Rattle.ledger.proofs.Histories.{begun, chain-agrees, headOr}
 
 -- ---- the kinds
 
-pub called-kind : (n k a e : ℕ) (x : Memory) (r : Reply) (y : Memory) → k ≡ n → Called (callOf n a e) x r y → Called (callOf k a e) x r y
-called-kind n k a e x r y h p = subst (λ (i : ℕ). Called (callOf i a e) x r y) (sym h) p
+pub called-kind : (n k a e : ℕ) (x : Memory) (r : Reply) (y : Memory) → k ≡ n → CallEnsures (callOf n a e) x r y → CallEnsures (callOf k a e) x r y
+called-kind n k a e x r y h p = subst (λ (i : ℕ). CallEnsures (callOf i a e) x r y) (sym h) p
 
 pub called-wipe : (k a e : ℕ) (x : Memory) (r : Reply) (y : Memory) → (k ≡ 0 → ⊥) → (k ≡ 1 → ⊥) → (k ≡ 2 → ⊥) → (k ≡ 3 → ⊥) → (k ≡ 4 → ⊥)
-    → Called Wipe x r y → Called (callOf k a e) x r y
+    → CallEnsures Wipe x r y → CallEnsures (callOf k a e) x r y
 unfolding callOf
 called-wipe k a e x r y h0 h1 h2 h3 h4 p = rw (ne-eqb k 0 h0, ne-eqb k 1 h1, ne-eqb k 2 h2, ne-eqb k 3 h3, ne-eqb k 4 h4) p
 
 -- ---- the loop
 
-chain-then : {x y z : Memory} {c : Call} {r : Reply} {cs : List Call} {rs : List Reply} → Chain x cs rs y → Called c y r z
+chain-then : {x y z : Memory} {c : Call} {r : Reply} {cs : List Call} {rs : List Reply} → Chain x cs rs y → CallEnsures c y r z
     → Chain x (cs ++ c ∷ []) (rs ++ r ∷ []) z
 chain-then none k = call k none
 chain-then (call h t) k = call h (chain-then t k)
@@ -47,7 +47,7 @@ pub chained-none : (start : Memory) (l : Encoded) (answers : List ℕ) → Chain
 chained-none start l answers = record { others = refl; replies = []; written = refl; chain = none }
 
 pub chained-more : (i : ℕ) (start : Memory) (l : Encoded) (answers answers′ : List ℕ) (x y : Memory) (r : Reply) (code : ℕ)
-    → Chained i start l answers answers′ x → Called (callOf (getD (l .kinds) i 0) (getD (l .starts) i 0) (getD (l .ends) i 0)) x r y
+    → Chained i start l answers answers′ x → CallEnsures (callOf (getD (l .kinds) i 0) (getD (l .starts) i 0) (getD (l .ends) i 0)) x r y
     → code ≡ codeOf r → i < length answers′ → Chained (i + 1) start l answers (set answers′ i code) y
 chained-more i start l answers answers′ x y r code k h e w =
     record {

@@ -5,7 +5,7 @@ ghost use Prim.Native.Nat.{_≤_, min};
 ghost use lib.ListN.{length};
 ghost use Rattle.range_bitset.specs.Answers.{ofCounted};
 ghost use Rattle.ledger.specs.Memory.{memory};
-ghost use Rattle.ledger.specs.Entries.{Called as CallEnsures};
+ghost use Rattle.ledger.specs.Entries.{CallEnsures};
 ghost use Rattle.ledger_replay.specs.Replay.{encoded, callOf, codeOf, ReplaysNew, ReplaysOpen};
 ghost use Rattle.ledger_replay.specs.Inner.{Chained, Continues};
 use ledger::Called;

@@ -18,7 +18,7 @@ use Rattle.range_bitset.specs.declared.Counted.{Counted}
 use Rattle.range_bitset.proofs.Heads.{range-accepted}
 use Rattle.ledger.specs.Machine.{Call}
 use Rattle.ledger.specs.Memory.{Memory, memory}
-use Rattle.ledger.specs.Entries.{Called}
+use Rattle.ledger.specs.Entries.{CallEnsures}
 use Rattle.ledger.specs.declared.Called.{Called as Done}
 use Rattle.ledger.specs.declared.Opened.{Opened}
 use Rattle.command_lines.specs.declared.Command.{Command}
@@ -43,7 +43,7 @@ started n o live x a live′ y e p = subst (λ c. Starts c live x a live′ y) (
 
 pub by-call : (c : Call) (x : Memory) (d : Done) (r : Performed) (st j : List ℕ)
     → (r .answer ≡ answerOf (ofCounted (d .answer))) × (r .head ≡ d .head) × (r .live ≡ true)
-    → Called c x (ofCounted (d .answer)) (memory (d .head) st j) → Calls c x (r .answer) (r .live) (memory (r .head) st j)
+    → CallEnsures c x (ofCounted (d .answer)) (memory (d .head) st j) → Calls c x (r .answer) (r .live) (memory (r .head) st j)
 by-call c x d r st j t e = record { same-live = t .2; reply = ofCounted (d .answer); called = rw (t .1) e; told = t .0 }
 
 -- ---- a command before an accepted `new`

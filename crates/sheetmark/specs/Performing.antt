@@ -10,7 +10,7 @@ use Rattle.range_bitset.specs.Answers.{Reply, Number, Nothing, Refusal, ofFound
 use Rattle.range_bitset.specs.Entries.{Answers}
 use Rattle.ledger.specs.Machine.{Call, Range, Back, Wipe}
 use Rattle.ledger.specs.Memory.{Memory, memory}
-use Rattle.ledger.specs.Entries.{Called, newOf}
+use Rattle.ledger.specs.Entries.{CallEnsures, newOf}
 use Rattle.ledger.specs.declared.Opened.{Opened}
 use Rattle.ledger.specs.declared.Opened.the-variants as opened
 use Rattle.command_lines.specs.declared.Command.{Command}
@@ -46,7 +46,7 @@ Starts (opened.BadRun i) live x a live′ y = (a ≡ answer.Refused 8) × (live�
 pub record Calls (c : Call) (x : Memory) (a : Answer) (live′ : Bool) (y : Memory) : Type 0 where
   pub same-live : live′ ≡ true
   pub reply : Reply
-  pub called : Called c x reply y
+  pub called : CallEnsures c x reply y
   pub told : a ≡ answerOf reply
 
 -- a query of the present ledger's set: f is the reply on the plain set

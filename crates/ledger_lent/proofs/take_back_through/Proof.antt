@@ -8,7 +8,7 @@ use Rattle.saved_list.proofs.OneCallee.{one-callee, asks, tells, last-list}
 use Rattle.range_bitset.specs.Answers.{ofCounted}
 use Rattle.ledger.specs.Machine.{Back}
 use Rattle.ledger.specs.Memory.{memory}
-use Rattle.ledger.specs.Entries.{Called as Promise}
+use Rattle.ledger.specs.Entries.{CallEnsures as Promise}
 use Rattle.ledger.specs.declared.Ledger.{Ledger}
 use Rattle.range_bitset.specs.declared.Counted.{Counted}
 use Rattle.ledger_lent.proofs.take_back_lent as core

@@ -8,7 +8,7 @@ use Rattle.saved_list.proofs.OneCallee.{one-callee, asks, tells, last-list}
 use Rattle.range_bitset.specs.Answers.{ofCounted}
 use Rattle.ledger.specs.Machine.{Wipe}
 use Rattle.ledger.specs.Memory.{memory}
-use Rattle.ledger.specs.Entries.{Called as Promise}
+use Rattle.ledger.specs.Entries.{CallEnsures as Promise}
 use Rattle.ledger.specs.declared.Ledger.{Ledger}
 use Rattle.ledger.specs.declared.Called.{Called}
 use Rattle.ledger.proofs.Ledger.wipe as core
