@@ -199,6 +199,7 @@ impl Ledger {
         }
     }
 
+    // The set's `len` is refused just where its head is not good.
     fn good_head(head: Ledger) -> bool
         ensures { λ r. ⌜ r ≡ goodLedger head ⌝ }
     {

@@ -1,4 +1,4 @@
--- What a storage says, read through its masks, on any memory. A mask bit is believed before the number under it: a word
+-- What a storage says, read through its masks, on any memory. A mask bit goes before the number under it: a word
 -- or block marked empty or full reads as zero or all ones, whatever stands there. Assumes nothing.
 use mathlib.Core.Bool.{cond}
 use mathlib.Core.List.{List}

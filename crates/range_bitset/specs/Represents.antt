@@ -2,10 +2,10 @@
 -- set. Assumes nothing.
 --
 -- Why stale numbers do no harm. A range assignment that covers a whole word or block only changes the mask bits above it
--- and leaves the number itself as it was, so the number may then be anything. It is never believed: whoever reads goes
--- through the masks, from the top down, and a word or block that is marked all clear or all set is not looked at. Before a
+-- and leaves the number itself as it was, so the number may then be anything. It is never read: every reader goes
+-- through the masks, from the top down, and does not look at a word or block that is marked all clear or all set. Before a
 -- part of such a word or block is changed, `open_block` and `assign_in_word` write anew what the mark stood for. So the
--- relation says nothing of a number under such a mark, and a proof that would need it does not exist.
+-- relation says nothing of a number under such a mark.
 use mathlib.Core.Path.{_≡_}
 use mathlib.Core.Bool.{Bool, true, false, not, _&&_, _||_}
 use mathlib.Core.List.{List}

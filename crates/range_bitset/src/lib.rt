@@ -96,7 +96,7 @@ pub enum State {
     Full,
 }
 
-// A bitset over `0..capacity` positions: its head. Nothing of the storage is believed before `allocated`.
+// A bitset over `0..capacity` positions: its head. Nothing of the storage is read before `allocated`.
 pub struct RangeBitset {
     pub words: u32,
     pub len: u32,
@@ -288,7 +288,7 @@ impl RangeBitset {
         Self::top_nonzero_slot(words) + 1
     }
 
-    // The first setting zeroes the top masks; nothing else of the storage is believed then.
+    // The first setting zeroes the top masks, so that no other number of the storage is read; so does clearing all.
     fn ensure_storage(storage: &mut [u64], words: usize, allocated: bool)
         requires { ⌜ Room words (now storage) ⌝ }
         ensures { λ r. ⌜ Begins words allocated (now (storage .entry)) (now (storage .exit)) ⌝ }

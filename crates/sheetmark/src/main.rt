@@ -67,11 +67,11 @@ fn new_ledger(
     storage: &[u64],
     journal: &[u32],
     capacity: u32,
-    journal_len: u32,
+    limit: u32,
 ) -> Performed
-    ensures { λ r. ⌜ Starts (newOf capacity «journal_len» (length (now (storage .entry))) (length (now (journal .entry)))) live (memory head (now (storage .entry)) (now (journal .entry))) (r .answer) (r .live) (memory (r .head) (now (storage .entry)) (now (journal .entry))) ⌝ }
+    ensures { λ r. ⌜ Starts (newOf capacity limit (length (now (storage .entry))) (length (now (journal .entry)))) live (memory head (now (storage .entry)) (now (journal .entry))) (r .answer) (r .live) (memory (r .head) (now (storage .entry)) (now (journal .entry))) ⌝ }
 {
-    match Ledger::new(capacity as usize, journal_len as usize, storage, journal) {
+    match Ledger::new(capacity as usize, limit as usize, storage, journal) {
         Opened::Head(fresh) => Performed {
             answer: Answer::Number(0),
             head: fresh,
@@ -101,7 +101,7 @@ fn perform_live(
 {
     let set = head.set;
     match command {
-        Command::New(capacity, j) => new_ledger(head, true, storage, journal, capacity, j),
+        Command::New(capacity, limit) => new_ledger(head, true, storage, journal, capacity, limit),
         Command::Mark(a, e) => called(head.mark(storage, journal, a as usize, e as usize)),
         Command::Clear(a, e) => called(head.clear(storage, journal, a as usize, e as usize)),
         Command::Count(a, e) => Performed {
@@ -133,8 +133,8 @@ fn perform_live(
 fn perform_before_new(head: Ledger, storage: &[u64], journal: &[u32], command: Command) -> Performed
     ensures { λ r. ⌜ Performs command false (memory head (now (storage .entry)) (now (journal .entry))) (r .answer) (r .live) (memory (r .head) (now (storage .entry)) (now (journal .entry))) ⌝ }
 {
-    if let Command::New(capacity, j) = command {
-        return new_ledger(head, false, storage, journal, capacity, j);
+    if let Command::New(capacity, limit) = command {
+        return new_ledger(head, false, storage, journal, capacity, limit);
     }
     Performed {
         answer: Answer::BadLine,
