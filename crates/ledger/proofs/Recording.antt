@@ -6,13 +6,9 @@ use mathlib.Core.List.{List}
 use Prim.Native.Nat.{ℕ, _+_, _*_, _-_, _/_, _≤_, _<_}
 use native.Mathlib.Omega.{arith}
 use borrow.Author.Tests.{le-leb, lt-leb, leb-true, leb-false, eq-eqb, ne-eqb}
-use lib.Dec.{leb}
 use lib.ListN.{length, take}
 use Rattle.positions.specs.Positions.{Positions, assigned}
 use Rattle.positions.specs.Runs.{changedRuns}
-use Rattle.positions.proofs.Bools.{and-left}
-use Rattle.positions.proofs.Counts.{count-le}
-use Rattle.range_bitset.specs.Layout.{allowed}
 use Rattle.range_bitset.specs.Represents.{Represents, capacityOf}
 use Rattle.range_bitset.specs.Answers.{Refusal, ofCounted, goodHead, rangeRefusal}
 use Rattle.range_bitset.specs.Entries.{AssignEnsures}
@@ -27,12 +23,7 @@ use Rattle.ledger.specs.Entries.{CallEnsures, flagAfter}
 use Rattle.ledger.specs.Inner.{RunsFit, WritesCall}
 use Rattle.ledger.specs.declared.Ledger.{Ledger}
 use Rattle.ledger.proofs.Machines.{stayed, went, step-outside, step-full, step-range, kept-step, set-after-range, needs-added, journal-added}
-use Rattle.ledger.proofs.Refusals.{declined-as, LentEnough, lent-accepted, accepted-lent, set-accepts, range-accepts, ledger-set, good-again}
-
--- a head with another's word count and a population within the capacity is as good
-good-after : (h h′ : RangeBitset) → goodHead h ≡ true → h′ .words ≡ h .words → h′ .len ≤ capacityOf h′ → goodHead h′ ≡ true
-unfolding goodHead
-good-after h h′ g w l = rw (w, and-left (allowed (h .words)) (leb (h .len) (capacityOf h)) g) (le-leb (h′ .len) (64 * h .words) (omega (arith, ap (λ (n : ℕ). 64 * n) w)))
+use Rattle.ledger.proofs.Refusals.{represented-good, declined-as, LentEnough, lent-accepted, accepted-lent, set-accepts, range-accepts, ledger-set, good-again}
 
 module _ (h : Ledger) (st j : List ℕ) (a e : ℕ) (v : Bool) where
   -- ---- the refusals of the table
@@ -182,8 +173,7 @@ module _ (h : Ledger) (st j : List ℕ) (a e : ℕ) (v : Bool) where
       where
         good-set : goodHead (r .head) ≡ true
         good-set =
-            good-after (h .set) (r .head) (ledger-set h (enough .good)) (changes .same-words)
-            (omega (arith, set-next m x .counted, count-le (assigned (setOf m) a e v) 0 (capacityOf (r .head))))
+            represented-good (h .set) (r .head) st′ (assigned (setOf m) a e v) (ledger-set h (enough .good)) (changes .same-words) (set-next m x)
 
     in-use-next : (m : Machine) → Holds before m → u′ ≡ used (nextOf m (Range a e v))
     unfolding used

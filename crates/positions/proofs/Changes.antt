@@ -12,15 +12,7 @@ use Rattle.positions.specs.Runs.{Run, run, runs, changedRuns, placeOr, r
 use Rattle.positions.proofs.Ranges.{within-in, within-behind}
 use Rattle.positions.proofs.Counts.{count-all}
 use Rattle.positions.proofs.Runs.{runs-only, runs-next, runs-empty, runs-lengths, runs-ascending, runs-covered, assignedRuns-at}
-use Rattle.positions.proofs.Searches.{IsFirst, Searched, hit, miss, first-means}
-
-differ-same : (v : Bool) → differ v v ≡ false
-differ-same true = refl
-differ-same false = refl
-
-differ-not : (v : Bool) → differ (not v) v ≡ true
-differ-not true = refl
-differ-not false = refl
+use Rattle.positions.proofs.Searches.{differ-same, differ-other, IsFirst, Searched, hit, miss, first-means}
 
 -- the changed runs, by two searches: none where the first search finds nothing, else the run found and the runs behind it
 
@@ -57,12 +49,12 @@ changed-next s a e v p h = go (first s (not v) a e) h (first-means s (not v) a e
     last m f (hit q k) =
         runs-next (lacking s v) a p q e (m .low) (apart q (k .low) (m .value) (k .value)) (omega (arith, k .high))
         (λ i u w. rw (m .none-before i u w, Bool·not-not v, differ-same v))
-        (λ i u w. rw (k .none-before i u w, Bool·not-not v, differ-not v))
+        (λ i u w. rw (k .none-before i u w, Bool·not-not v, differ-other v))
         (λ w. rw (k .value, Bool·not-not v, differ-same v))
     last m f (miss k) =
         runs-next (lacking s v) a p e e (m .low) (m .high) (omega arith)
         (λ i u w. rw (m .none-before i u w, Bool·not-not v, differ-same v))
-        (λ i u w. rw (k i u w, Bool·not-not v, differ-not v))
+        (λ i u w. rw (k i u w, Bool·not-not v, differ-other v))
         (λ w. absurd (omega arith))
 
     go : (f : Found) → f ≡ At p → Searched s (not v) a e f

@@ -21,11 +21,11 @@ pub data Searched (s : Positions) (v : Bool) (a e : ℕ) : Found → Type 0 wher
   hit : (p : ℕ) → IsFirst s v a e p → Searched s v a e (At p)
   miss : Lacks s v a e → Searched s v a e None
 
-differ-same : (v : Bool) → differ v v ≡ false
+pub differ-same : (v : Bool) → differ v v ≡ false
 differ-same true = refl
 differ-same false = refl
 
-differ-other : (v : Bool) → differ (not v) v ≡ true
+pub differ-other : (v : Bool) → differ (not v) v ≡ true
 differ-other true = refl
 differ-other false = refl
 

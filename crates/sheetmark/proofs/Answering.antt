@@ -13,11 +13,10 @@ use Rattle.command_lines.specs.declared.Gathered.{Gathered}
 use Rattle.command_lines.specs.declared.Answer.{Answer}
 use Rattle.command_lines.specs.Lines.{meaning}
 use Rattle.command_lines.specs.Answers.{printed, filled, usedAfter}
-use Rattle.command_lines.specs.Input.{unended, linesFrom, upTo, ends, Gathers, Holds}
+use Rattle.command_lines.specs.Input.{linesFrom, upTo, ends, Gathers, Holds}
 use Rattle.command_lines.proofs.Filling.{sets-append}
 use Rattle.command_lines.proofs.Buffers.{holds-none, gathers-holds, held-means, lines-ended, lines-open, up-to-open}
 use Rattle.sheetmark.specs.declared.Session.{Session}
-use Rattle.sheetmark.specs.Performing.{Performs}
 use Rattle.sheetmark.specs.Answering.{State, state, AnswersLine, hasRoom, withRoom, Serves, none, line, texts, Appends, Parts, Ends}
 
 -- ---- room in the output

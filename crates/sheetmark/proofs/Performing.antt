@@ -9,7 +9,7 @@ use native.Mathlib.Omega.{arith}
 use lib.ListN.{length}
 use types.Run.{OneOf}
 use denote.Enum.Declared.{tagOf}
-use Rattle.positions.specs.Positions.{Positions, Found, At, first, count}
+use Rattle.positions.specs.Positions.{Positions, Found, first, count}
 use Rattle.positions.proofs.Searches.{Searched, hit, miss, first-means}
 use Rattle.range_bitset.specs.Answers.{Reply, Number, ofCounted, ofPlace, ofFound, rangeRefusal}
 use Rattle.range_bitset.specs.Entries.{CountEnsures, NextEnsures}
