@@ -22,7 +22,7 @@ use Rattle.range_bitset.specs.declared.Assigned.{Assigned}
 use Rattle.ledger.specs.Machine.{Machine, Standing, Call, Range, Back, Wipe, held, setOf, population, needs, used, made, Stands, Made, withStanding, step}
 use Rattle.ledger.specs.Journal.{entry, written, journalOf}
 use Rattle.ledger.specs.Memory.{Memory, memory, Holds, lentRefusal, wipeRefusal, callRefusal}
-use Rattle.ledger.specs.Entries.{CallEnsures, ofAnswer, restores, flagAfter}
+use Rattle.ledger.specs.Entries.{CallEnsures, restores, flagAfter}
 use Rattle.ledger.specs.Inner.{lastOf, readRuns, changedByRuns, Within, AssignsRuns}
 use Rattle.ledger.specs.declared.Ledger.{Ledger}
 use Rattle.ledger.specs.declared.Last.{Last}
@@ -309,7 +309,7 @@ module _ (h : Ledger) (st j : List ℕ) where
           unchanged = λ w. absurd (w tt);
           storage-kept = a .reassigns .kept;
           journal-kept = λ i w. refl;
-          answers = λ m q. stands-some m q (λ x. Number count-back ≡ ofAnswer (step m Back .answer)) (λ c cs e. rw (step-back m c cs e) (ap Number (done m q c cs e .answered)));
+          answers = λ m q. stands-some m q (λ x. Number count-back ≡ step m Back .answer) (λ c cs e. rw (step-back m c cs e) (ap Number (done m q c cs e .answered)));
           holds = λ m q. stands-some m q (λ x. Holds after (step m Back .next)) (λ c cs e. rw (step-back m c cs e) (holds-after m q c cs e));
           flag = λ m q. stands-some m q (λ x. h′ .allocated ≡ (h .set .allocated || restores x)) (λ c cs e. done m q c cs e .flag);
         }

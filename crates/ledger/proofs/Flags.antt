@@ -12,7 +12,7 @@ use Rattle.positions.proofs.Counts.{count-none}
 use Rattle.range_bitset.specs.Answers.{Reply, Number, Nothing, Refusal}
 use Rattle.ledger.specs.Machine.{Machine, Standing, Call, Range, Back, Wipe, setOf, made, Verdict, Accepted, Declined, rangeVerdict, standsAny, decided, step, after, changedBy}
 use Rattle.ledger.specs.Memory.{Memory, Holds}
-use Rattle.ledger.specs.Entries.{CallEnsures, ofAnswer, restores, flagAfter}
+use Rattle.ledger.specs.Entries.{CallEnsures, restores, flagAfter}
 use Rattle.ledger.specs.History.{Begun, by-new, by-open, Chain, none, call}
 use Rattle.ledger.proofs.Machines.{set-inside}
 use Rattle.ledger.proofs.Histories.{begun}
@@ -49,7 +49,7 @@ module _ (x : Memory) (m : Machine) (q : Holds x m) (u : Unmarked x m) where
           go false y = set-inside m (q .kept) i (ltb-false i (m .capacity) y)
 
   module _ (r : Reply) (y : Memory) where
-    unmarked-range : (a e : ℕ) (v : Bool) (w : Verdict) → r ≡ ofAnswer (decided w m (Range a e v) .answer) → flagOf y ≡ flagAfter (flagOf x) m (Range a e v) r
+    unmarked-range : (a e : ℕ) (v : Bool) (w : Verdict) → r ≡ decided w m (Range a e v) .answer → flagOf y ≡ flagAfter (flagOf x) m (Range a e v) r
         → Unmarked y (decided w m (Range a e v) .next)
     unfolding made
     unmarked-range a e v (Declined k) p g f = u (sym (g ∙ rw p) ∙ f)
@@ -58,7 +58,7 @@ module _ (x : Memory) (m : Machine) (q : Holds x m) (u : Unmarked x m) where
         let z = or-clear (flagOf x) (false && ltb a e) (sym (g ∙ rw p) ∙ f) in
         omega (arith, u z, clears-none a e z)
 
-    unmarked-back : (l : List Standing) → m .standing ≡ l → r ≡ ofAnswer (decided (standsAny l) m Back .answer) → flagOf y ≡ flagAfter (flagOf x) m Back r
+    unmarked-back : (l : List Standing) → m .standing ≡ l → r ≡ decided (standsAny l) m Back .answer → flagOf y ≡ flagAfter (flagOf x) m Back r
         → Unmarked y (decided (standsAny l) m Back .next)
     unmarked-back [] k p g f = u (sym (g ∙ rw p) ∙ f)
     unmarked-back (c ∷ cs) k p g f =

@@ -1,7 +1,7 @@
 -- Demand 3's proof: from what new or open gives, through each call's promise, to what can be asked afterwards. Assumes nothing.
 use mathlib.Core.Path.{_≡_, refl, sym, ap, subst, _∙_}
 use mathlib.Core.Bool.{Bool, true, false, _&&_, cond, false≢true}
-use mathlib.Core.List.{List, map}
+use mathlib.Core.List.{List}
 use Prim.Native.Nat.{ℕ, _*_, _%_, _/_, _≤_, _<_}
 use native.Mathlib.Omega.{arith}
 use borrow.Author.Tests.{le-leb, lt-ltb, eqb-true}
@@ -16,7 +16,7 @@ use Rattle.range_bitset.specs.Answers.{Reply, allowedCapacity, goodHead, storag
 use Rattle.range_bitset.specs.Entries.{Answers}
 use Rattle.ledger.specs.Machine.{Machine, fresh, Call, Outcome, step, after, setOf, population, used}
 use Rattle.ledger.specs.Memory.{Memory, memory, goodLedger, lentEnough, lentRefusal, Holds}
-use Rattle.ledger.specs.Entries.{ofAnswer, newHead, newOf, refusalOf}
+use Rattle.ledger.specs.Entries.{newHead, newOf, refusalOf}
 use Rattle.ledger.specs.History.{Begun, by-new, by-open, Chain, none as no-call, call, Agrees, History}
 use Rattle.ledger.specs.declared.Ledger.{Ledger}
 use Rattle.ledger.specs.declared.Opened.{Opened}
@@ -73,7 +73,7 @@ begun x m (by-open k) = k .holds _ refl
 
 -- the answers are the machine's
 chain-answers : (x z : Memory) (m : Machine) (cs : List Call) (rs : List Reply) → Holds x m → Chain x cs rs z
-    → rs ≡ map ofAnswer (after m cs .answers)
+    → rs ≡ after m cs .answers
 unfolding after
 chain-answers x z m cs rs h no-call = refl
 chain-answers x z m cs rs h (call {y = y} {c = c} {cs = ds} {rs = qs} s t) =
@@ -108,7 +108,7 @@ module _ (x : Memory) (m : Machine) (h : Holds x m) where
   unfolding population
   size = h .set .counted ∙ ap (λ (c : ℕ). count (setOf m) 0 c) (h .capacity)
 
-pub agrees : (o : Outcome) (rs : List Reply) (x : Memory) → rs ≡ map ofAnswer (o .answers) → Holds x (o .last) → Agrees o rs x
+pub agrees : (o : Outcome) (rs : List Reply) (x : Memory) → rs ≡ o .answers → Holds x (o .last) → Agrees o rs x
 agrees o rs x e h =
     let m : Machine = o .last in
     record {

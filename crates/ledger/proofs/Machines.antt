@@ -9,7 +9,8 @@ use lib.Dec.{leb}
 use lib.ListN.{length, length-append}
 use Rattle.positions.specs.Positions.{Positions, assigned, count}
 use Rattle.positions.specs.Runs.{changedRuns, assignedRuns}
-use Rattle.ledger.specs.Machine.{Standing, Machine, held, setOf, population, needs, used, Call, Range, Back, Wipe, Done, Refused, needOf, made, Verdict, Accepted, Declined, unless, rangeVerdict, standsAny, verdict, amount, withStanding, fresh, nextOf, Step, decided, step, after, added, changedBy, Stands, Made, Kept, openedWith}
+use Rattle.ledger.specs.Machine.{Standing, Machine, held, setOf, population, needs, used, Call, Range, Back, Wipe, needOf, made, Verdict, Accepted, Declined, unless, rangeVerdict, standsAny, verdict, amount, withStanding, fresh, nextOf, Step, decided, step, after, added, changedBy, Stands, Made, Kept, openedWith}
+use Rattle.range_bitset.specs.Answers.{Number, Refusal}
 use Rattle.ledger.specs.Journal.{written, entry, journalOf}
 use Rattle.positions.proofs.Ranges.{within-behind}
 use Rattle.positions.proofs.Assigned.{assigned-count, gain, loss}
@@ -158,10 +159,10 @@ step-capacity m c = go (verdict m c) c
 
 -- the machine's step, case by case: what each return of an entry cites
 abbrev pub stayed : Machine → ℕ → Step
-stayed m k = record { next = m; answer = Refused k }
+stayed m k = record { next = m; answer = Refusal k }
 
 abbrev pub went : Machine → Call → Step
-went m c = record { next = nextOf m c; answer = Done (amount m c) }
+went m c = record { next = nextOf m c; answer = Number (amount m c) }
 
 pub step-outside : (m : Machine) (a e : ℕ) (v : Bool) → m .capacity < e → step m (Range a e v) ≡ stayed m 4
 unfolding step rangeVerdict
@@ -182,7 +183,7 @@ unfolding step
 step-none m h = rw h
 
 pub step-back : (m : Machine) (c : Standing) (cs : List Standing) → m .standing ≡ c ∷ cs
-    → step m Back ≡ record { next = withStanding m cs; answer = Done (c .changed) }
+    → step m Back ≡ record { next = withStanding m cs; answer = Number (c .changed) }
 unfolding step
 step-back m c cs h = rw h
 

@@ -13,7 +13,7 @@ use Rattle.range_bitset.specs.Answers.{Reply, Number, Nothing, Refusal, refused
 use Rattle.ledger.specs.Machine.{Machine, fresh, Call, Range, Back, setOf, population, needOf, made, used, rangeVerdict, step, after}
 use Rattle.ledger.specs.Journal.{written, journalOf}
 use Rattle.ledger.specs.Memory.{lentEnough}
-use Rattle.ledger.specs.Entries.{ofAnswer, newOf}
+use Rattle.ledger.specs.Entries.{newOf}
 use Rattle.ledger.specs.declared.Opened.{Opened}
 use Rattle.ledger.specs.declared.Opened.the-variants as opened
 
@@ -51,7 +51,7 @@ pub data Line : Type 0 where
 
 abbrev pub replies : Machine → List Line → List Reply
 replies m [] = []
-replies m (Do c ∷ ls) = ofAnswer (step m c .answer) ∷ replies (step m c .next) ls
+replies m (Do c ∷ ls) = step m c .answer ∷ replies (step m c .next) ls
 replies m (Count a e ∷ ls) = within (m .capacity) (setOf m) e (Number (count (setOf m) a e)) ∷ replies m ls
 replies m (Next v a e ∷ ls) = searched (m .capacity) (setOf m) v a e ∷ replies m ls
 replies m (Used ∷ ls) = Number (used m) ∷ replies m ls

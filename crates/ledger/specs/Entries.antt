@@ -9,17 +9,13 @@ use lib.ListN.{length, getD, drop}
 use Rattle.range_bitset.specs.Layout.{needed}
 use Rattle.range_bitset.specs.Answers.{Reply, Number, Nothing, Refusal, Accepted, allowedCapacity}
 use Rattle.saved_list.specs.Format.{savedWords, savedCount, savedCapacity, savedPositions, headed, whole, firstBadRun}
-use Rattle.ledger.specs.Machine.{Machine, Standing, openedWith, Call, Range, Back, Wipe, Answer, Done, Refused, step}
+use Rattle.ledger.specs.Machine.{Machine, Standing, openedWith, Call, Range, Back, Wipe, step}
 use Rattle.ledger.specs.Memory.{Memory, memory, lentEnough, callRefusal, Holds}
 use Rattle.ledger.specs.declared.Ledger.{Ledger}
 use Rattle.ledger.specs.declared.Opened.{Opened}
 use Rattle.ledger.specs.declared.Opened.the-variants as opened
 
 -- ---- marking, clearing, take-back and wipe
-
-abbrev pub ofAnswer : Answer → Reply
-ofAnswer (Done n) = Number n
-ofAnswer (Refused k) = Refusal k
 
 -- a marking or a clearing
 abbrev pub ranges : Call → Bool
@@ -55,7 +51,7 @@ pub record CallEnsures (c : Call) (before : Memory) (r : Reply) (next : Memory) 
   pub storage-kept : drop (needed (before .head .set .words)) (next .storage) ≡ drop (needed (before .head .set .words)) (before .storage)
   pub journal-kept : (i : ℕ) → (i < before .head .used) ⊎ (next .head .used ≤ i) → getD (next .journal) i 0 ≡ getD (before .journal) i 0
   -- on a sound ledger: the machine's answer, so that 6 is for want of numbers alone, and the machine's next state
-  pub answers : (m : Machine) → Holds before m → r ≡ ofAnswer (step m c .answer)
+  pub answers : (m : Machine) → Holds before m → r ≡ step m c .answer
   pub holds : (m : Machine) → Holds before m → Holds next (step m c .next)
   pub flag : (m : Machine) → Holds before m → next .head .set .allocated ≡ flagAfter (before .head .set .allocated) m c r
 

@@ -1,7 +1,7 @@
 -- Demand 3: one statement about a whole list of calls, from what an accepted new or open has just given. Assumes nothing.
 use mathlib.Core.Path.{_≡_}
 use mathlib.Core.Bool.{true, false}
-use mathlib.Core.List.{List, [], _∷_, map}
+use mathlib.Core.List.{List, [], _∷_}
 use Prim.Native.Nat.{ℕ, _+_, _≤_, _<_}
 use lib.ListN.{length}
 use Rattle.positions.specs.Positions.{count, first, one}
@@ -13,7 +13,7 @@ use Rattle.range_bitset.specs.declared.Found.{Found as Place}
 use Rattle.saved_list.specs.Format.{savedCapacity, savedPositions}
 use Rattle.ledger.specs.Machine.{Machine, fresh, openedWith, Call, Outcome, after, setOf, population, used, changedBy}
 use Rattle.ledger.specs.Memory.{Memory, memory}
-use Rattle.ledger.specs.Entries.{ofAnswer, CallEnsures, newOf, OpenEnsures}
+use Rattle.ledger.specs.Entries.{CallEnsures, newOf, OpenEnsures}
 use Rattle.ledger.specs.declared.Ledger.{Ledger}
 use Rattle.ledger.specs.declared.Opened.the-variants as opened
 
@@ -33,7 +33,7 @@ pub data Chain : Memory → List Call → List Reply → Memory → Type 0 where
 -- the answers, and what can be asked of the memory afterwards, agree with the plain machine's outcome
 pub record Agrees (o : Outcome) (replies : List Reply) (x : Memory) : Type 0 where
   -- each call's answer
-  pub answers : replies ≡ map ofAnswer (o .answers)
+  pub answers : replies ≡ o .answers
   -- `get` at every position; `count` and both searches over every start..end within capacity
   pub gets : (i : ℕ) → i < o .last .capacity → (r : Tested) → GetEnsures (x .head .set) (x .storage) i r
       → ofTested r ≡ Number (one (setOf (o .last) i))

@@ -9,6 +9,7 @@ use lib.Dec.{leb}
 use lib.ListN.{length}
 use Rattle.positions.specs.Positions.{Positions, none, assigned, count, changedCount, differ}
 use Rattle.positions.specs.Runs.{changedRuns}
+use Rattle.range_bitset.specs.Answers.{Reply, Number, Refusal}
 
 -- 01's standing call: start, end, value, with its changed count and the journal numbers that it needed when made
 pub record Standing : Type 0 where
@@ -129,18 +130,14 @@ nextOf m Wipe = fresh (m .capacity) (m .journal)
 
 -- ---- one call, and a list of calls
 
-pub data Answer : Type 0 where
-  Done : ℕ → Answer
-  Refused : ℕ → Answer
-
 pub record Step : Type 0 where
   pub next : Machine
-  pub answer : Answer
+  pub answer : Reply
 
 -- a refused call leaves the machine as it is
 abbrev pub decided : Verdict → Machine → Call → Step
-decided Accepted m c = record { next = nextOf m c; answer = Done (amount m c) }
-decided (Declined k) m c = record { next = m; answer = Refused k }
+decided Accepted m c = record { next = nextOf m c; answer = Number (amount m c) }
+decided (Declined k) m c = record { next = m; answer = Refusal k }
 
 unfoldable pub step : Machine → Call → Step
 step m c = decided (verdict m c) m c
@@ -148,9 +145,9 @@ step m c = decided (verdict m c) m c
 -- a whole list: where the machine ends, and the answers in the calls' order
 pub record Outcome : Type 0 where
   pub last : Machine
-  pub answers : List Answer
+  pub answers : List Reply
 
-abbrev pub noted : Answer → Outcome → Outcome
+abbrev pub noted : Reply → Outcome → Outcome
 noted a o = record { last = o .last; answers = a ∷ o .answers }
 
 unfoldable pub after : Machine → List Call → Outcome
