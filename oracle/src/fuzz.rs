@@ -15,6 +15,8 @@ use guarded::*;
 use port::*;
 use random::Random;
 
+static NOW: Now<Case> = Now::new();
+
 #[derive(Clone, Copy, Debug)]
 #[allow(dead_code)]
 struct Case {
@@ -156,7 +158,7 @@ fn run_round(room: &mut Room<u64>, random: &mut Random, seed: u64, done: u64) ->
             end: position(random, capacity),
             value: !random.once_in(3),
         };
-        under_way(&case);
+        NOW.is(case);
         match case.kind {
             0..=2 => {
                 let next = change(case, room, &mut round);
@@ -173,5 +175,5 @@ fn run_round(room: &mut Room<u64>, random: &mut Random, seed: u64, done: u64) ->
 
 fn main() {
     let mut room = Room::new(MOST);
-    run(|random, seed, done| run_round(&mut room, random, seed, done));
+    run(&NOW, |random, seed, done| run_round(&mut room, random, seed, done));
 }

@@ -4,8 +4,9 @@
 use crate::port::*;
 use crate::random::Random;
 use std::cell::UnsafeCell;
-use std::fmt::Debug;
+use std::fmt::{Debug, Formatter};
 use std::ops::Range;
+use std::sync::OnceLock;
 use std::time::{Duration, Instant};
 
 const PAGE: usize = 4096;
@@ -14,14 +15,25 @@ pub const MARGIN: usize = 64;
 /// The longest storage that `slice_len` gives.
 pub const MOST: usize = 4290 + 600;
 
-/// The call under way, for the report of a fault.
-struct Now(UnsafeCell<Option<*const dyn Debug>>);
-unsafe impl Sync for Now {}
-static NOW: Now = Now(UnsafeCell::new(None));
+/// The call under way, for the report of a fault. Each driver has one, and names it to `run`.
+pub struct Now<C>(UnsafeCell<Option<C>>);
+unsafe impl<C> Sync for Now<C> {}
+static NOW: OnceLock<&'static (dyn Debug + Sync)> = OnceLock::new();
 
-/// Names the call under way. `case` must live until the next call is named.
-pub fn under_way<C: Debug + 'static>(case: &C) {
-    unsafe { *NOW.0.get() = Some(case as *const dyn Debug) };
+impl<C> Now<C> {
+    pub const fn new() -> Self {
+        Now(UnsafeCell::new(None))
+    }
+
+    pub fn is(&self, case: C) {
+        unsafe { *self.0.get() = Some(case) };
+    }
+}
+
+impl<C: Debug> Debug for Now<C> {
+    fn fmt(&self, out: &mut Formatter) -> std::fmt::Result {
+        unsafe { &*self.0.get() }.fmt(out)
+    }
 }
 
 /// The driver's name: the crate's, which is the first part of this module's path.
@@ -31,7 +43,7 @@ fn driver() -> &'static str {
 
 extern "C" fn fault(number: i32) {
     let what = if number == 14 { "no end after 20 seconds" } else { "a fault" };
-    println!("{}: {what} (signal {number}) in {:?}", driver(), unsafe { (*NOW.0.get()).map(|case| &*case) });
+    println!("{}: {what} (signal {number}) in {:?}", driver(), NOW.get().unwrap());
     unsafe { _exit(1) }
 }
 
@@ -186,7 +198,7 @@ pub fn slice_len(random: &mut Random, words: usize) -> usize {
 }
 
 /// The run that the driver's words ask for. `round` makes one round's calls, numbered from `done`, and answers how many.
-pub fn run(mut round: impl FnMut(&mut Random, u64, u64) -> u64) {
+pub fn run<C: Debug>(now: &'static Now<C>, mut round: impl FnMut(&mut Random, u64, u64) -> u64) {
     let arguments: Vec<String> = std::env::args().skip(1).collect();
     let number = |at: usize| arguments.get(at).and_then(|word| word.parse::<u64>().ok());
     let seconds = arguments.first().and_then(|word| word.strip_suffix('s')).and_then(|word| word.parse().ok());
@@ -194,6 +206,7 @@ pub fn run(mut round: impl FnMut(&mut Random, u64, u64) -> u64) {
         eprintln!("usage: {} N SEED, N calls or, as 20s, seconds", driver());
         std::process::exit(2);
     };
+    NOW.set(now).expect("one run");
     // SIGILL, SIGABRT, SIGBUS, SIGFPE, SIGSEGV, SIGALRM
     for signal_number in [4, 6, 7, 8, 11, 14] {
         unsafe { signal(signal_number, fault) };
