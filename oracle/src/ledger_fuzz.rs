@@ -95,7 +95,9 @@ impl<'a, T: Copy + PartialEq> Lent<'a, T> {
 
     /// Holds the slice and its margins to what they held, but for the `free` numbers.
     fn hold(&mut self, free: Range<usize>, case: Case) {
+        let none = free.is_empty();
         if let Some(what) = self.round.check(self.room, free) {
+            let what = if none { "a number was written, and none was free" } else { what };
             wrong(case, &format!("{}: {what}", self.name));
         }
     }
