@@ -147,6 +147,7 @@ fn ledger(words: usize, len: u32, begun: bool, limit: usize, used: usize) -> Led
 
 /// New, held to its whole promise: it is owed on any memory.
 fn make_new(case: Case, memory: &mut Memory) -> Opened {
+    NOW.is(case);
     let (storage, journal, capacity, limit) = (&memory.storage, &memory.journal, case.start, case.end);
     let opened = unsafe {
         klado_ledger_new(capacity, limit, storage.first(), case.storage_len, journal.first(), case.journal_len)
@@ -161,6 +162,7 @@ fn make_new(case: Case, memory: &mut Memory) -> Opened {
 
 /// Open, likewise.
 fn make_open(case: Case, memory: &mut Memory, random: &mut Random, bytes: &[u8]) -> Opened {
+    NOW.is(case);
     let mut file = Lent::new("file", memory.file, random, bytes.len(), |random| random.next() as u8);
     for (at, byte) in bytes.iter().enumerate() {
         file.put(at, *byte);
@@ -201,6 +203,7 @@ fn is_sound(case: Case, memory: &Memory, head: Ledger) {
 
 /// A call of a ledger, and what holds on any memory but for the refusal's number.
 fn perform(case: Case, memory: &mut Memory) -> LedgerAnswer {
+    NOW.is(case);
     let (head, storage, journal) = (case.head, memory.storage.first(), memory.journal.first());
     let (storage_len, journal_len, start, end) = (case.storage_len, case.journal_len, case.start, case.end);
     let answer = unsafe {
@@ -398,20 +401,17 @@ fn loose_round(rooms: &mut Rooms, random: &mut Random, seed: u64, done: u64) -> 
                     _ => capacity,
                 };
                 case.end = any_limit(random, limit);
-                NOW.is(case);
                 make_new(case, &mut memory);
             }
             Open => {
                 let file = any_file(random, words);
                 (case.start, case.end) = (file.len(), any_limit(random, limit));
-                NOW.is(case);
                 let opened = make_open(case, &mut memory, random, &file);
                 if opened.refused == 0 {
                     head = opened.head;
                 }
             }
             _ => {
-                NOW.is(case);
                 let next = loose_call(case, &mut memory);
                 // now and then the head stays behind the storage
                 if lent == head && !random.once_in(8) {
@@ -538,7 +538,6 @@ fn sound_round(rooms: &mut Rooms, random: &mut Random, seed: u64, done: u64) -> 
             _ => [Clear, Mark][value as usize],
         };
         (case.start, case.end) = ways.range(random, &machine, value);
-        NOW.is(case);
         let answer = match case.kind {
             New => {
                 (case.start, case.end) = (capacity, limit);

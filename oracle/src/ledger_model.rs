@@ -11,7 +11,6 @@ struct Standing {
     start: usize,
     end: usize,
     value: bool,
-    changed: u32,
     needed: usize,
 }
 
@@ -96,7 +95,7 @@ impl Machine {
         self.begun |= value && start < end;
         self.journal.extend(runs.iter().flat_map(|run| [run.0, run.1]));
         self.journal.push(2 * runs.len() as u32 + value as u32);
-        self.calls.push(Standing { start, end, value, changed, needed });
+        self.calls.push(Standing { start, end, value, needed });
         Ok(changed)
     }
 
@@ -113,7 +112,6 @@ impl Machine {
             }
         }
         let changed = self.has[over].iter().zip(&old).filter(|(new, old)| new != old).count() as u32;
-        assert_eq!(changed, last.changed, "the machine's own take-back");
         self.population = if last.value { self.population - changed } else { self.population + changed };
         self.journal.truncate(self.journal.len() - last.needed);
         Ok(changed)
