@@ -1,43 +1,38 @@
 -- The returns of the audit over the blocks, over a storage, and of the entry: what each tells, from what the code has there.
 -- Assumes nothing.
-use mathlib.Core.Path.{_≡_, refl, ap, sym, _∙_, subst}
+use mathlib.Core.Path.{_≡_, refl, ap, sym, _∙_, subst, ap₂}
 use mathlib.Core.Logic.{inl, inr}
-use mathlib.Core.Bool.{Bool, true, false, true≢false}
+use mathlib.Core.Bool.{Bool, true, false, true≢false, cond}
 use mathlib.Core.List.{List}
-use Prim.Native.Nat.{ℕ, _+_, _*_, _≤_, _<_, min}
+use Prim.Native.Nat.{ℕ, _+_, _*_, _/_, _<_}
 use native.Mathlib.Decide.{decLt}
 use native.Mathlib.Omega.{arith}
 use lib.Dec.{eqb}
 use lib.ListN.{length}
-use Rattle.positions.specs.Positions.{Positions, count}
-use Rattle.positions.proofs.Counts.{count-split, count-empty, count-le}
-use Rattle.range_bitset.specs.Layout.{blocks, wordsOf, at, topNonzero, topFull}
+use borrow.Author.Tests.{lt-ltb}
+use Rattle.positions.specs.Positions.{count}
+use Rattle.range_bitset.specs.Layout.{blocks}
 use Rattle.range_bitset.specs.Read.{stateOf}
-use Rattle.range_bitset.specs.Represents.{blockCount, capacityOf}
-use Rattle.audit.specs.Sound.{plain, SoundStorage, Sound}
-use Rattle.range_bitset.specs.Answers.{storageRefusal}
+use Rattle.range_bitset.specs.Represents.{capacityOf}
+use Rattle.audit.specs.Sound.{plain, SoundStorage, Sound, Words}
+use Rattle.range_bitset.specs.Answers.{Reply, Number, Nothing, Refusal, ofCounted, Accepted, storageRefusal, pointRefusal, firstOf}
+use Rattle.range_bitset.specs.Shown.{topsOf, mixedOf, blockBy, TopsEnsures, BlockEnsures, RecountEnsures}
 use Rattle.audit.specs.Entry.{AuditEnsures}
-use Rattle.audit.specs.Inner.{Tells, SoundMasks, SoundAt, SoundBlocks}
+use Rattle.audit.specs.Inner.{Tells, SoundMasks, InWords, SoundMixed, SoundAt, SoundBlocks}
 use Rattle.range_bitset.specs.declared.RangeBitset.{RangeBitset}
+use Rattle.range_bitset.specs.declared.Counted.{Counted}
+use Rattle.range_bitset.specs.declared.Counted.the-variants as counted
+use Rattle.range_bitset.specs.declared.MixedBlock.{MixedBlock}
 use Rattle.range_bitset.specs.declared.State.{State}
-use Rattle.range_bitset.specs.declared.State.the-variants.{Empty, Mixed, Full}
+use Rattle.range_bitset.specs.declared.Tops.{Tops}
+use Rattle.range_bitset.specs.declared.ShownTops.{ShownTops}
+use Rattle.range_bitset.specs.declared.ShownTops.the-variants as tops
+use Rattle.range_bitset.specs.declared.ShownBlock.{ShownBlock}
+use Rattle.range_bitset.specs.declared.ShownBlock.the-variants as block
 use Rattle.range_bitset.specs.declared.Tested.the-variants as tested
-use Rattle.audit.proofs.AuditBlocks.{masks-as, told, told-as, told-eq, told-not}
-
--- ---- a block that is not mixed
-
-unmixed : State → ℕ
-unmixed Empty = 0
-unmixed Mixed = 1
-unmixed Full = 2
-
-pub empty-told : (W : ℕ) (st : List ℕ) (b : ℕ) → stateOf W st b ≡ Empty → Tells true (SoundAt W st b)
-unfolding unmixed
-empty-told W st b e = told (λ m. let z : _≡_ {A = ℕ} 0 1 = ap unmixed (sym e ∙ m) in absurd (omega arith))
-
-pub full-told : (W : ℕ) (st : List ℕ) (b : ℕ) → stateOf W st b ≡ Full → Tells true (SoundAt W st b)
-unfolding unmixed
-full-told W st b e = told (λ m. let z : _≡_ {A = ℕ} 2 1 = ap unmixed (sym e ∙ m) in absurd (omega arith))
+use Rattle.range_bitset.proofs.Heads.{accepted}
+use Rattle.audit.proofs.SoundStorage.{sound-stored}
+use Rattle.audit.proofs.AuditBlocks.{told, told-not, told-as, told-eq, masks-fit, fit-masks, words-in, shown-sound, sound-shown, shown-unmixed, shown-refused, shown-mixed}
 
 -- ---- the blocks, and the storage
 
@@ -56,45 +51,92 @@ module _ (W : ℕ) (st : List ℕ) where
   pub blocks-stop : {r : Bool} (b : ℕ) → b < blocks W → Tells r (SoundAt W st b) → r ≡ false → Tells false (SoundBlocks W st (blocks W))
   blocks-stop b h t e = told-not (λ f. t .no e (f b h))
 
-  module _ (x y : ℕ) (px : x ≡ at W st topNonzero) (py : y ≡ at W st topFull) where
-    pub tops-stop : {r : Bool} → Tells r (SoundMasks (blocks W) x y) → r ≡ false → Tells false (SoundStorage W st)
-    tops-stop t e =
-        told-not
-        (λ z.
-        masks-as (blocks W) x y refl px py t .no e
-        (record { nonzero-fits = z .top-nonzero-fits; full-fits = z .top-full-fits; within-nonzero = z .top-within }))
+-- what is shown of the top masks, and then the blocks, tell whether the storage is sound
+module _ (h : RangeBitset) (st : List ℕ) (e : storageRefusal h (length st) ≡ 0) (r : ShownTops) (s : TopsEnsures h st r) where
+  tops-are : (m : Tops) → r ≡ tops.Tops m → m ≡ topsOf (h .words) st
+  tops-are m p = ap held (sym p ∙ s .shows e)
+    where
+      held : ShownTops → Tops
+      held (tops.Tops m) = m
+      held (tops.Refused k) = m
 
-    pub storage-told : {r q : Bool} → Tells r (SoundMasks (blocks W) x y) → r ≡ true → Tells q (SoundBlocks W st (blocks W)) → Tells q (SoundStorage W st)
-    storage-told t e u =
-        let s = masks-as (blocks W) x y refl px py t .yes e in
-        told-as u
-        (λ f.
-        record { top-nonzero-fits = s .nonzero-fits; top-full-fits = s .full-fits; top-within = s .within-nonzero; block = f })
-        (λ z. z .block)
+  pub tops-shown : (k : ℕ) → r ≡ tops.Refused k → ⊥
+  tops-shown k p = let z : _≡_ {A = ℕ} 1 0 = ap tag (sym p ∙ s .shows e) in absurd (omega arith)
+    where
+      tag : ShownTops → ℕ
+      tag (tops.Tops m) = 0
+      tag (tops.Refused k) = 1
 
--- ---- the whole population
+  pub tops-stop : {q : Bool} (m : Tops) → r ≡ tops.Tops m → Tells q (SoundMasks (m .nonzero) (m .full) (m .valid)) → q ≡ false → Tells false (SoundStorage (h .words) st)
+  tops-stop m p t f =
+      told-not
+      (λ z.
+      let o = fit-masks (blocks (h .words)) _ _ (z .top-nonzero-fits) (z .top-within) in
+      t .no f (subst (λ (x : Tops). SoundMasks (x .nonzero) (x .full) (x .valid)) (sym (tops-are m p)) o))
 
--- where the first b blocks end
-abbrev pub reach : ℕ → ℕ → ℕ
-reach W b = min (4096 * b) (64 * W)
+  pub storage-told : {q v : Bool} (m : Tops) → Words st → r ≡ tops.Tops m → Tells q (SoundMasks (m .nonzero) (m .full) (m .valid)) → q ≡ true
+      → Tells v (SoundBlocks (h .words) st (blocks (h .words))) → Tells v (SoundStorage (h .words) st)
+  storage-told m u p t f v =
+      let o = subst (λ (x : Tops). SoundMasks (x .nonzero) (x .full) (x .valid)) (tops-are m p) (t .yes f) in
+      let fits = masks-fit (blocks (h .words)) _ _ (u _) (u _) o in
+      told-as v
+      (λ g. record { top-nonzero-fits = fits .0; top-full-fits = fits .1; top-within = o .within-nonzero; block = g })
+      (λ z. z .block)
 
-pub reach-first : (W : ℕ) (s : Positions) → 0 ≡ count s 0 (reach W 0)
-reach-first W s = sym (count-empty s 0 (reach W 0) (omega arith))
+-- an accepted head and a block of it: its first position is accepted
+pub block-accepted : (h : RangeBitset) (n b : ℕ) → storageRefusal h n ≡ 0 → b < blocks (h .words) → pointRefusal h n (4096 * b) ≡ 0
+unfolding pointRefusal
+block-accepted h n b e l = ap₂ (λ (k : ℕ) (t : Bool). firstOf k (cond t 0 4)) e (lt-ltb (4096 * b) (capacityOf h) (omega arith))
 
-pub reach-next : (W : ℕ) (s : Positions) (b : ℕ) → b < blocks W → count s 0 (reach W b) + blockCount W s b ≡ count s 0 (reach W (b + 1))
-unfolding blockCount
-reach-next W s b h =
-    let e : reach W b ≡ 4096 * b = omega arith in
-    let f : reach W (b + 1) ≡ 4096 * b + 64 * wordsOf W b = omega arith in
-    ap (λ (x : ℕ). count s 0 x + count s (4096 * b) (4096 * b + 64 * wordsOf W b)) e
-    ∙ sym (count-split s 0 (4096 * b) (4096 * b + 64 * wordsOf W b) (omega arith) (omega arith))
-    ∙ ap (count s 0) (sym f)
+-- what is shown of a block tells whether it meets 01's rules
+module _ (h : RangeBitset) (st : List ℕ) (b : ℕ) (e : storageRefusal h (length st) ≡ 0) (l : b < blocks (h .words)) (r : ShownBlock) (s : BlockEnsures h st (4096 * b) r) where
+  state : State
+  state = stateOf (h .words) st b
 
-pub reach-most : (W : ℕ) (s : Positions) (b : ℕ) → count s 0 (reach W b) ≤ 64 * W
-reach-most W s b = omega (arith, count-le s 0 (reach W b))
+  mixed : MixedBlock
+  mixed = mixedOf (h .words) st b
 
-pub reach-all : (W : ℕ) (s : Positions) (b : ℕ) → blocks W ≤ b → count s 0 (reach W b) ≡ count s 0 (64 * W)
-reach-all W s b h = let e : reach W b ≡ 64 * W = omega arith in ap (count s 0) e
+  shown-as : r ≡ blockBy state mixed
+  unfolding state mixed
+  shown-as =
+      let i : 4096 * b / 4096 ≡ b = omega arith in
+      s .shows (block-accepted h (length st) b e l) ∙ ap (λ (x : ℕ). blockBy (stateOf (h .words) st x) (mixedOf (h .words) st x)) i
+
+  pub unmixed-told : r ≡ block.Unmixed → Tells true (SoundAt (h .words) st b)
+  unfolding state
+  unmixed-told p = told (λ m. absurd (shown-unmixed state mixed r shown-as p m))
+
+  pub never-refused : (k : ℕ) → r ≡ block.Refused k → ⊥
+  never-refused k p = shown-refused state mixed r shown-as k p
+
+  pub block-words : (m : MixedBlock) → r ≡ block.Mixed m → InWords st b (m .valid)
+  unfolding mixed
+  block-words m p =
+      let q = shown-mixed state mixed r shown-as m p .1 in
+      subst (λ (x : MixedBlock). InWords st b (x .valid)) (sym q) (words-in (h .words) st b (accepted h st e) l)
+
+  pub block-told : {q : Bool} (m : MixedBlock) → Words st → r ≡ block.Mixed m → Tells q (SoundMixed st b m) → Tells q (SoundAt (h .words) st b)
+  unfolding state mixed
+  block-told m u p t =
+      let z = shown-mixed state mixed r shown-as m p in
+      told-as t
+      (λ o x. shown-sound (h .words) st b u x (subst (λ (y : MixedBlock). SoundMixed st b y) (z .1) o))
+      (λ f. subst (λ (y : MixedBlock). SoundMixed st b y) (sym (z .1)) (sound-shown (h .words) st b u (z .0) (f (z .0))))
+
+-- ---- the population
+
+-- the population that is counted again, where the storage is sound
+module _ (h : RangeBitset) (st : List ℕ) (u : Words st) (e : storageRefusal h (length st) ≡ 0) (o : SoundStorage (h .words) st) (r : Counted) (c : RecountEnsures h st r) where
+  pub recounts : (n : ℕ) → r ≡ counted.Count n → eqb (h .len) n ≡ eqb (h .len) (count (plain (h .words) st) 0 (capacityOf h))
+  recounts n p = ap (λ (x : Reply). eqb (h .len) (numberOf x)) (ap ofCounted (sym p) ∙ c .counts e (plain (h .words) st) (sound-stored (h .words) st u o))
+    where
+      numberOf : Reply → ℕ
+      numberOf (Number n) = n
+      numberOf Nothing = 0
+      numberOf (Refusal k) = 0
+
+  pub recount-accepted : (k : ℕ) → r ≡ counted.Refused k → ⊥
+  recount-accepted k p = subst (λ (x : Counted). Accepted (ofCounted x)) p (c .accepts e)
 
 -- ---- the entry
 
@@ -123,15 +165,16 @@ module _ (h : RangeBitset) (st : List ℕ) where
       → AuditEnsures h st (tested.Is false)
   audit-storage e f t g = audit-told false e (told-not (λ o. t .no g (o .storage f)))
 
-  pub audit-whole : {r : Bool} (n : ℕ) → storageRefusal h (length st) ≡ 0 → h .allocated ≡ true → Tells r (SoundStorage (h .words) st) → r ≡ true
-      → n ≡ count (plain (h .words) st) 0 (capacityOf h) → AuditEnsures h st (tested.Is (eqb (h .len) n))
-  audit-whole n e f t g p =
+  pub audit-whole : {r q : Bool} → storageRefusal h (length st) ≡ 0 → h .allocated ≡ true → Tells r (SoundStorage (h .words) st) → r ≡ true
+      → q ≡ eqb (h .len) (count (plain (h .words) st) 0 (capacityOf h)) → AuditEnsures h st (tested.Is q)
+  audit-whole e f t g p =
       audit-told _ e
-      (told-as (told-eq (h .len) n)
-      (λ q.
+      (subst (λ (x : Bool). Tells x (Sound h st)) (sym p)
+      (told-as (told-eq (h .len) _)
+      (λ d.
       record {
-        unbegun = λ d. absurd (true≢false (sym f ∙ d));
-        storage = λ d. t .yes g;
-        whole = λ d. q ∙ p;
+        unbegun = λ n. absurd (true≢false (sym f ∙ n));
+        storage = λ n. t .yes g;
+        whole = λ n. d;
       })
-      (λ o. o .whole f ∙ sym p))
+      (λ o. o .whole f)))

@@ -3,10 +3,12 @@
 use mathlib.Core.Path.{_≡_}
 use mathlib.Core.Bool.{Bool, true, false}
 use mathlib.Core.List.{List}
-use Prim.Native.Nat.{ℕ, _+_, _*_, _^_, _<_}
+use Prim.Native.Nat.{ℕ, _+_, _*_, _-_, _<_}
+use lib.Bits.{bitAnd}
+use lib.ListN.{length, getD}
 use Rattle.bits.specs.Bit.{bit}
-use Rattle.range_bitset.specs.Layout.{at, word}
 use Rattle.range_bitset.specs.Read.{ALL, stateOf}
+use Rattle.range_bitset.specs.declared.MixedBlock.{MixedBlock}
 use Rattle.range_bitset.specs.declared.State.the-variants.{Mixed}
 use Rattle.audit.specs.Sound.{SoundBlock}
 
@@ -15,15 +17,25 @@ pub record Tells (r : Bool) (P : Type 0) : Type 0 where
   pub yes : r ≡ true → P
   pub no : r ≡ false → P → ⊥
 
--- the nonzero and the full mask of n words or blocks: no bit at or above n, and full lies within nonzero
-pub record SoundMasks (n any all : ℕ) : Type 0 where
-  pub nonzero-fits : any < 2 ^ n
-  pub full-fits : all < 2 ^ n
+-- the nonzero and the full mask of the words or blocks `valid`: no bit past those, and full lies within nonzero
+pub record SoundMasks (any all valid : ℕ) : Type 0 where
+  pub fits : (j : ℕ) → bit any j ≡ true → bit valid j ≡ true
   pub within-nonzero : (j : ℕ) → bit all j ≡ true → bit any j ≡ true
 
--- the words of block b that m has are neither 0 nor all ones
-abbrev pub SoundWords : ℕ → List ℕ → ℕ → ℕ → Type 0
-SoundWords W st b m = (j : ℕ) → bit m j ≡ true → (at W st (word (64 * b + j)) ≡ 0 → ⊥) × (at W st (word (64 * b + j)) ≡ ALL → ⊥)
+-- the words of block b that m has lie in the storage; they are neither 0 nor all ones
+abbrev pub InWords : List ℕ → ℕ → ℕ → Type 0
+InWords st b m = (j : ℕ) → bit m j ≡ true → 64 * b + j < length st
+
+abbrev pub SoundWords : List ℕ → ℕ → ℕ → Type 0
+SoundWords st b m = (j : ℕ) → bit m j ≡ true → (getD st (64 * b + j) 0 ≡ 0 → ⊥) × (getD st (64 * b + j) 0 ≡ ALL → ⊥)
+
+-- block b, shown as m, meets the rules: a field for each check
+pub record SoundMixed (st : List ℕ) (b : ℕ) (m : MixedBlock) : Type 0 where
+  pub masks : SoundMasks (m .nonzero) (m .full) (m .valid)
+  pub some : m .nonzero ≡ 0 → ⊥
+  pub not-all : m .full ≡ m .valid → ⊥
+  pub words : SoundWords st b (bitAnd (m .nonzero) (ALL - m .full))
+  pub counted : m .population ≡ m .counted
 
 -- block b, if it is mixed, meets the rules; and each of the first n blocks
 abbrev pub SoundAt : ℕ → List ℕ → ℕ → Type 0

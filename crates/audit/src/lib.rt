@@ -1,24 +1,26 @@
 // The audit: says whether a head and the storage lent with it are sound, by 01's rules. It goes by those rules alone, from the
-// top masks down, and reads no number that they call stale. The set itself is range_bitset, whose readers it shares.
+// top masks down, and reads no number that they call stale. The set itself is range_bitset, which shows the numbers to it.
 // Assumes nothing of its callers: the entry has no `requires`.
 ghost use mathlib.Core.Path.{_≡_};
 ghost use mathlib.Core.Bool.{true};
-ghost use Prim.Native.Nat.{ℕ, _*_, _^_, _<_, _≤_};
+ghost use Prim.Native.Nat.{ℕ, _<_};
+ghost use lib.Dec.{eqb};
+ghost use lib.ListN.{length};
 ghost use Rattle.positions.specs.Positions.{count};
 ghost use Rattle.bits.specs.Bit.{bit};
-ghost use Rattle.range_bitset.specs.Layout.{blocks, wordsOf};
-ghost use Rattle.range_bitset.specs.Read.{stateOf};
-ghost use Rattle.range_bitset.specs.Represents.{blockCount};
-ghost use Rattle.range_bitset.specs.Inner.{Room};
-ghost use Rattle.range_bitset.specs.declared.State.the-variants.{Mixed};
-ghost use Rattle.audit.specs.Sound.{plain, SoundBlock, SoundStorage};
+ghost use Rattle.range_bitset.specs.Layout.{blocks};
+ghost use Rattle.range_bitset.specs.Represents.{capacityOf};
+ghost use Rattle.range_bitset.specs.Answers.{storageRefusal};
+ghost use Rattle.audit.specs.Sound.{plain, SoundStorage};
 ghost use Rattle.audit.specs.Entry.{AuditEnsures};
-ghost use Rattle.audit.specs.Inner.{Tells, SoundMasks, SoundWords, SoundAt, SoundBlocks};
+ghost use Rattle.audit.specs.Inner.{Tells, SoundMasks, InWords, SoundWords, SoundMixed, SoundAt, SoundBlocks};
 use range_bitset::ALL;
+use range_bitset::Counted;
+use range_bitset::MixedBlock;
 use range_bitset::RangeBitset;
-use range_bitset::State;
+use range_bitset::ShownBlock;
+use range_bitset::ShownTops;
 use range_bitset::Tested;
-use range_bitset::span;
 
 // Whether every bit of `part` is one of `whole`.
 fn lies_within(part: u64, whole: u64) -> bool
@@ -27,21 +29,20 @@ fn lies_within(part: u64, whole: u64) -> bool
     part & !whole == 0
 }
 
-// Whether the masks of `n` words or blocks have no bit at or above `n`, and full lies within nonzero.
-fn masks_sound(any: u64, all: u64, n: usize) -> bool
-    requires { ⌜ (0 < n) × (n ≤ 64) ⌝ }
-    ensures { λ r. ⌜ Tells r (SoundMasks n any all) ⌝ }
+// Whether the masks of words or blocks have no bit past those that there are, and full lies within nonzero.
+fn masks_sound(nonzero: u64, full: u64, valid: u64) -> bool
+    ensures { λ r. ⌜ Tells r (SoundMasks nonzero full valid) ⌝ }
 {
-    if !lies_within(any, span(0, n)) {
+    if !lies_within(nonzero, valid) {
         return false;
     }
-    lies_within(all, any)
+    lies_within(full, nonzero)
 }
 
 // Whether the data words `explicit` of `block` are neither zero nor all ones.
-fn stored_words_sound(storage: &[u64], words: usize, block: usize, explicit: u64) -> bool
-    requires { ⌜ Room words (now storage) × (block < blocks words) × (explicit < 2 ^ wordsOf words block) ⌝ }
-    ensures { λ r. ⌜ Tells r (SoundWords words (now (storage .entry)) block explicit) ⌝ }
+fn stored_words_sound(storage: &[u64], block: usize, explicit: u64) -> bool
+    requires { ⌜ (block < 64) × InWords (now storage) block explicit ⌝ }
+    ensures { λ r. ⌜ Tells r (SoundWords (now (storage .entry)) block explicit) ⌝ }
 {
     let mut explicit = explicit;
     while explicit != 0 {
@@ -58,52 +59,47 @@ fn stored_words_sound(storage: &[u64], words: usize, block: usize, explicit: u64
 }
 
 // Whether a `Mixed` block meets the rules.
-fn mixed_block_sound(storage: &[u64], words: usize, block: usize) -> bool
-    requires { ⌜ Room words (now storage) × (block < blocks words) × (stateOf words (now storage) block ≡ Mixed) ⌝ }
-    ensures { λ r. ⌜ Tells r (SoundBlock words (now (storage .entry)) block) ⌝ }
+fn mixed_block_sound(storage: &[u64], block: usize, mixed: MixedBlock) -> bool
+    requires { ⌜ (block < 64) × InWords (now storage) block (mixed .valid) ⌝ }
+    ensures { λ r. ⌜ Tells r (SoundMixed (now (storage .entry)) block mixed) ⌝ }
 {
-    let nonzero_slot = RangeBitset::nonzero_slot(words, block);
-    let full_slot = RangeBitset::full_slot(words, block);
-    let nonzero = storage[nonzero_slot];
-    let full = storage[full_slot];
-    if !masks_sound(nonzero, full, RangeBitset::words_per_block(words, block)) {
+    let nonzero = mixed.nonzero;
+    let full = mixed.full;
+    if !masks_sound(nonzero, full, mixed.valid) {
         return false;
     }
     if nonzero == 0 {
         return false;
     }
-    let valid = RangeBitset::valid_words(words, block);
-    if full == valid {
+    if full == mixed.valid {
         return false;
     }
-    if !stored_words_sound(storage, words, block, nonzero & !full) {
+    if !stored_words_sound(storage, block, nonzero & !full) {
         return false;
     }
-    let counted = RangeBitset::mixed_words_population(storage, words, block, valid);
-    let slot = RangeBitset::population_slot(words, block);
-    storage[slot] == counted as u64
+    mixed.population == mixed.counted as u64
 }
 
 // Whether `block` meets the rules, which ask nothing of one that is all clear or all set.
-fn block_sound(storage: &[u64], words: usize, block: usize) -> bool
-    requires { ⌜ Room words (now storage) × (block < blocks words) ⌝ }
-    ensures { λ r. ⌜ Tells r (SoundAt words (now (storage .entry)) block) ⌝ }
+fn block_sound(head: RangeBitset, storage: &[u64], block: usize) -> bool
+    requires { ⌜ (storageRefusal head (length (now storage)) ≡ 0) × (block < blocks (head .words)) ⌝ }
+    ensures { λ r. ⌜ Tells r (SoundAt (head .words) (now (storage .entry)) block) ⌝ }
 {
-    match RangeBitset::block_state(storage, words, block) {
-        State::Empty => true,
-        State::Full => true,
-        State::Mixed => mixed_block_sound(storage, words, block),
+    match head.block_of(storage, 4096 * block) {
+        ShownBlock::Unmixed => true,
+        ShownBlock::Mixed(mixed) => mixed_block_sound(storage, block, mixed),
+        ShownBlock::Refused(_) => false,
     }
 }
 
-fn blocks_sound(storage: &[u64], words: usize) -> bool
-    requires { ⌜ Room words (now storage) ⌝ }
-    ensures { λ r. ⌜ Tells r (SoundBlocks words (now (storage .entry)) (blocks words)) ⌝ }
+fn blocks_sound(head: RangeBitset, storage: &[u64]) -> bool
+    requires { ⌜ storageRefusal head (length (now storage)) ≡ 0 ⌝ }
+    ensures { λ r. ⌜ Tells r (SoundBlocks (head .words) (now (storage .entry)) (blocks (head .words))) ⌝ }
 {
-    let blocks = RangeBitset::blocks(words);
+    let capacity = 64 * head.words as usize;
     let mut block = 0;
-    while block < blocks {
-        if !block_sound(storage, words, block) {
+    while 4096 * block < capacity {
+        if !block_sound(head, storage, block) {
             return false;
         }
         block += 1;
@@ -111,46 +107,30 @@ fn blocks_sound(storage: &[u64], words: usize) -> bool
     true
 }
 
-fn storage_sound(storage: &[u64], words: usize) -> bool
-    requires { ⌜ Room words (now storage) ⌝ }
-    ensures { λ r. ⌜ Tells r (SoundStorage words (now (storage .entry))) ⌝ }
+fn storage_sound(head: RangeBitset, storage: &[u64]) -> bool
+    requires { ⌜ storageRefusal head (length (now storage)) ≡ 0 ⌝ }
+    ensures { λ r. ⌜ Tells r (SoundStorage (head .words) (now (storage .entry))) ⌝ }
 {
-    let nonzero = RangeBitset::top_nonzero_slot(words);
-    let full = RangeBitset::top_full_slot(words);
-    if !masks_sound(storage[nonzero], storage[full], RangeBitset::blocks(words)) {
-        return false;
-    }
-    blocks_sound(storage, words)
-}
-
-// How many positions a block has that meets the rules: a mixed one as its kept population says.
-fn block_population(storage: &[u64], words: usize, block: usize) -> u32
-    requires { ⌜ Room words (now storage) × (block < blocks words) × SoundAt words (now storage) block ⌝ }
-    ensures { λ r. ⌜ (r ≡ blockCount words (plain words (now (storage .entry))) block) × (r ≤ 4096) ⌝ }
-{
-    match RangeBitset::block_state(storage, words, block) {
-        State::Empty => 0,
-        State::Full => RangeBitset::words_per_block(words, block) as u32 * 64,
-        State::Mixed => {
-            let slot = RangeBitset::population_slot(words, block);
-            storage[slot] as u32
+    match head.top_masks(storage) {
+        ShownTops::Tops(tops) => {
+            if !masks_sound(tops.nonzero, tops.full, tops.valid) {
+                return false;
+            }
+            blocks_sound(head, storage)
         }
+        ShownTops::Refused(_) => false,
     }
 }
 
-// How many positions a storage has whose blocks meet the rules.
-fn whole_population(storage: &[u64], words: usize) -> u32
-    requires { ⌜ Room words (now storage) × SoundBlocks words (now storage) (blocks words) ⌝ }
-    ensures { λ r. ⌜ r ≡ count (plain words (now (storage .entry))) 0 (64 * words) ⌝ }
+// Whether the head's population is that of a sound storage.
+fn population_sound(head: RangeBitset, storage: &[u64]) -> bool
+    requires { ⌜ (storageRefusal head (length (now storage)) ≡ 0) × SoundStorage (head .words) (now storage) ⌝ }
+    ensures { λ r. ⌜ r ≡ eqb (head .len) (count (plain (head .words) (now (storage .entry))) 0 (capacityOf head)) ⌝ }
 {
-    let blocks = RangeBitset::blocks(words);
-    let mut block = 0;
-    let mut population = 0u32;
-    while block < blocks {
-        population += block_population(storage, words, block);
-        block += 1;
+    match head.recount(storage) {
+        Counted::Count(population) => head.len == population,
+        Counted::Refused(_) => false,
     }
-    population
 }
 
 // Whether storage and head are sound.
@@ -161,14 +141,12 @@ pub fn audit(head: RangeBitset, storage: &[u64]) -> Tested
     if refused != 0 {
         return Tested::Refused(refused);
     }
-    let words = head.words as usize;
-    let len = head.len;
     let allocated = head.allocated;
     if !allocated {
-        return Tested::Is(len == 0);
+        return Tested::Is(head.len == 0);
     }
-    if !storage_sound(storage, words) {
+    if !storage_sound(head, storage) {
         return Tested::Is(false);
     }
-    Tested::Is(len == whole_population(storage, words))
+    Tested::Is(population_sound(head, storage))
 }

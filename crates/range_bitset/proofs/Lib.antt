@@ -16,3 +16,4 @@ pub mod Populations
 pub mod CountPieces
 pub mod Candidates
 pub mod Searching
+pub mod Showing

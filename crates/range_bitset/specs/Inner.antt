@@ -1,5 +1,5 @@
 -- Contracts of the inner functions. No caller of an entry sees them, and nothing here need be believed: the entries'
--- promises (Entries) speak of none of it. The audit reads by Room, Spans and mixedCount. Assumes nothing.
+-- promises (Entries) speak of none of it. Assumes nothing.
 use mathlib.Core.Path.{_≡_}
 use mathlib.Core.Bool.{Bool, true, false, not, _&&_, cond}
 use mathlib.Core.List.{List, [], _∷_}

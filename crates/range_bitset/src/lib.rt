@@ -10,8 +10,7 @@
 //
 // The storage is lent with each call; the head goes in and comes back by value. Any head, number and memory is safe: an
 // entry refuses what 01's table refuses, and inside, sums wrap and masks are cut to the words and blocks that there are.
-// Assumes nothing of its callers: no entry has a `requires`. The readers that are `pub` beside the entries are for the crate
-// `audit`: what they require is the word count, the block and the storage's length, and each is exact on any memory.
+// Assumes nothing of its callers: no entry has a `requires`. The last three entries are not the Rust's: `audit` reads by them.
 ghost use mathlib.Core.Path.{_≡_};
 ghost use mathlib.Core.Bool.{true, false, not, _&&_, cond};
 ghost use lib.Count.{ones};
@@ -28,6 +27,7 @@ ghost use Rattle.range_bitset.specs.Represents.{valid};
 ghost use Rattle.range_bitset.specs.Answers.{ofPlace, ofFound, goodHead, storageRefusal, rangeRefusal, pointRefusal};
 ghost use Rattle.range_bitset.specs.Entries.{newOf, CapacityEnsures, LenEnsures, GetEnsures, CountEnsures, NextEnsures, AssignEnsures, SetEnsures, ClearEnsures};
 ghost use Rattle.range_bitset.specs.Inner.{Room, Spans, apart, moved, stores, openWith, writeWord, countMoved, writeMasks, writeTops, Opens, Closes, Assigns, Begins, mixedCount, wordsCount, blocksCount, Counts, CandidateWords, CandidateBlocks, NextInWord, NextAfter, BitsFrom};
+ghost use Rattle.range_bitset.specs.Shown.{mixedOf, TopsEnsures, BlockEnsures, RecountEnsures};
 
 pub const ALL: u64 = u64::MAX;
 
@@ -40,7 +40,7 @@ fn above(bit: usize) -> u64
 }
 
 // Bits `from..to` of one word.
-pub fn span(from: usize, to: usize) -> u64
+fn span(from: usize, to: usize) -> u64
     requires { ⌜ (from < to) × (to ≤ 64) ⌝ }
     ensures { λ r. ⌜ Spans r from to ⌝ }
 {
@@ -136,6 +136,34 @@ pub struct Updated {
     pub head: RangeBitset,
 }
 
+// What the audit is shown. The blocks that hold any set bit, those that are entirely set, and those that there are.
+pub struct Tops {
+    pub nonzero: u64,
+    pub full: u64,
+    pub valid: u64,
+}
+
+// The same of the words of a `Mixed` block; its kept population, and its population counted from its words.
+pub struct MixedBlock {
+    pub nonzero: u64,
+    pub full: u64,
+    pub valid: u64,
+    pub population: u64,
+    pub counted: u32,
+}
+
+pub enum ShownTops {
+    Tops(Tops),
+    Refused(u8),
+}
+
+// Of a block that is all clear or all set nothing is shown, since nothing below the top masks is read of it.
+pub enum ShownBlock {
+    Unmixed,
+    Mixed(MixedBlock),
+    Refused(u8),
+}
+
 impl RangeBitset {
     pub fn new(capacity: usize) -> Made
         ensures { λ r. ⌜ r ≡ newOf capacity ⌝ }
@@ -228,7 +256,7 @@ impl RangeBitset {
         if index < 64 * words { 0 } else { 4 }
     }
 
-    pub fn blocks(words: usize) -> usize
+    fn blocks(words: usize) -> usize
         requires { ⌜ words ≤ 4096 ⌝ }
         ensures { λ r. ⌜ r ≡ blocks words ⌝ }
     {
@@ -236,7 +264,7 @@ impl RangeBitset {
     }
 
     // How many words `block` has.
-    pub fn words_per_block(words: usize, block: usize) -> usize
+    fn words_per_block(words: usize, block: usize) -> usize
         requires { ⌜ (words ≤ 4096) × (block < blocks words) ⌝ }
         ensures { λ r. ⌜ r ≡ wordsOf words block ⌝ }
     {
@@ -245,7 +273,7 @@ impl RangeBitset {
     }
 
     // The mask of the words of `block`.
-    pub fn valid_words(words: usize, block: usize) -> u64
+    fn valid_words(words: usize, block: usize) -> u64
         requires { ⌜ (words ≤ 4096) × (block < blocks words) ⌝ }
         ensures { λ r. ⌜ r ≡ valid words block ⌝ }
     {
@@ -253,35 +281,35 @@ impl RangeBitset {
         if n >= 64 { ALL } else { (1u64 << n) - 1 }
     }
 
-    pub fn nonzero_slot(words: usize, block: usize) -> usize
+    fn nonzero_slot(words: usize, block: usize) -> usize
         requires { ⌜ (words ≤ 4096) × (block < 64) ⌝ }
         ensures { λ r. ⌜ r ≡ address words (nonzero block) ⌝ }
     {
         words + block
     }
 
-    pub fn full_slot(words: usize, block: usize) -> usize
+    fn full_slot(words: usize, block: usize) -> usize
         requires { ⌜ (words ≤ 4096) × (block < 64) ⌝ }
         ensures { λ r. ⌜ r ≡ address words (full block) ⌝ }
     {
         words + Self::blocks(words) + block
     }
 
-    pub fn population_slot(words: usize, block: usize) -> usize
+    fn population_slot(words: usize, block: usize) -> usize
         requires { ⌜ (words ≤ 4096) × (block < 64) ⌝ }
         ensures { λ r. ⌜ r ≡ address words (population block) ⌝ }
     {
         words + 2 * Self::blocks(words) + block
     }
 
-    pub fn top_nonzero_slot(words: usize) -> usize
+    fn top_nonzero_slot(words: usize) -> usize
         requires { ⌜ words ≤ 4096 ⌝ }
         ensures { λ r. ⌜ r ≡ address words topNonzero ⌝ }
     {
         words + 3 * Self::blocks(words)
     }
 
-    pub fn top_full_slot(words: usize) -> usize
+    fn top_full_slot(words: usize) -> usize
         requires { ⌜ words ≤ 4096 ⌝ }
         ensures { λ r. ⌜ r ≡ address words topFull ⌝ }
     {
@@ -301,7 +329,7 @@ impl RangeBitset {
         }
     }
 
-    pub fn block_state(storage: &[u64], words: usize, block: usize) -> State
+    fn block_state(storage: &[u64], words: usize, block: usize) -> State
         requires { ⌜ Room words (now storage) × (block < blocks words) ⌝ }
         ensures { λ r. ⌜ r ≡ stateOf words (now (storage .entry)) block ⌝ }
     {
@@ -481,7 +509,7 @@ impl RangeBitset {
     }
 
     // Population of the `mask` words of a `Mixed` block.
-    pub fn mixed_words_population(storage: &[u64], words: usize, block: usize, mask: u64) -> u32
+    fn mixed_words_population(storage: &[u64], words: usize, block: usize, mask: u64) -> u32
         requires { ⌜ Room words (now storage) × (block < blocks words) × (mask < 2 ^ wordsOf words block) ⌝ }
         ensures { λ r. ⌜ (r ≡ mixedCount words (now (storage .entry)) block mask) × (r ≤ 4096) ⌝ }
     {
@@ -1014,5 +1042,70 @@ impl RangeBitset {
                 allocated,
             },
         }
+    }
+
+    // ---- for the audit: what the storage says, on any memory
+
+    pub fn top_masks(self, storage: &[u64]) -> ShownTops
+        ensures { λ r. ⌜ TopsEnsures self (now (storage .entry)) r ⌝ }
+    {
+        let refused = Self::refusal(self, storage.len());
+        if refused != 0 {
+            return ShownTops::Refused(refused);
+        }
+        let words = self.words as usize;
+        let nonzero = Self::top_nonzero_slot(words);
+        let full = Self::top_full_slot(words);
+        ShownTops::Tops(Tops {
+            nonzero: storage[nonzero],
+            full: storage[full],
+            valid: span(0, Self::blocks(words)),
+        })
+    }
+
+    fn mixed_block(storage: &[u64], words: usize, block: usize) -> MixedBlock
+        requires { ⌜ Room words (now storage) × (block < blocks words) ⌝ }
+        ensures { λ r. ⌜ r ≡ mixedOf words (now (storage .entry)) block ⌝ }
+    {
+        let nonzero = Self::nonzero_slot(words, block);
+        let full = Self::full_slot(words, block);
+        let population = Self::population_slot(words, block);
+        let valid = Self::valid_words(words, block);
+        MixedBlock {
+            nonzero: storage[nonzero],
+            full: storage[full],
+            valid,
+            population: storage[population],
+            counted: Self::mixed_words_population(storage, words, block, valid),
+        }
+    }
+
+    // The block of position `index`.
+    pub fn block_of(self, storage: &[u64], index: usize) -> ShownBlock
+        ensures { λ r. ⌜ BlockEnsures self (now (storage .entry)) index r ⌝ }
+    {
+        let refused = Self::point_refusal(self, storage.len(), index);
+        if refused != 0 {
+            return ShownBlock::Refused(refused);
+        }
+        let words = self.words as usize;
+        let block = index / 4096;
+        match Self::block_state(storage, words, block) {
+            State::Empty => ShownBlock::Unmixed,
+            State::Full => ShownBlock::Unmixed,
+            State::Mixed => ShownBlock::Mixed(Self::mixed_block(storage, words, block)),
+        }
+    }
+
+    // How many positions the storage has, whatever population the head says.
+    pub fn recount(self, storage: &[u64]) -> Counted
+        ensures { λ r. ⌜ RecountEnsures self (now (storage .entry)) r ⌝ }
+    {
+        let refused = Self::refusal(self, storage.len());
+        if refused != 0 {
+            return Counted::Refused(refused);
+        }
+        let words = self.words as usize;
+        Counted::Count(Self::whole_words_population(storage, words, 0, words))
     }
 }

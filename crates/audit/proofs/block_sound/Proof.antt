@@ -1,44 +1,53 @@
 -- `audit::block_sound` meets its contract. Assumes nothing.
-use Rattle.audit.proofs.AuditBlocks.{told-as}
-use Rattle.audit.proofs.Audits.{empty-told, full-told}
-use mathlib.Core.Path.{sym, _∙_}
+use Rattle.audit.proofs.Audits.{unmixed-told, never-refused, block-words, block-told}
+use Rattle.audit.specs.Sound.{Words}
+use Rattle.range_bitset.proofs.Heads.{accepted}
+use native.Mathlib.Omega.{arith}
 use borrow.Author.Needs.{needs}
 use Rattle.audit.proofs.block_sound.Statement.{statement}
 use Rattle.audit.proofs.block_sound.Tie as tie
 
-block-state-requires : tie.Need-block-state-requires
-block-state-requires c κs = search needs
+mul-block-of : tie.Need-mul-block-of
+mul-block-of c = search needs
+
+block-of-requires : tie.Need-block-of-requires
+block-of-requires c κs = search needs
 
 enum-told : tie.Need-enum-told
 enum-told c = search needs
 
+enum-known-mixed : tie.Need-enum-known-mixed
+enum-known-mixed c = search needs
+
+mixed-block-sound-requires : tie.Need-mixed-block-sound-requires
+mixed-block-sound-requires c κs =
+    let most = accepted (c .before .before .before .before .before .args .head) (c .before .before .before .before .before .args .storage .now) (c .before .before .before .before .before .pre .0) .most in
+    (omega (arith, c .before .before .before .before .before .pre .1, most), block-words (c .before .before .before .before .before .args .head) (c .before .before .before .before .before .args .storage .now) (c .before .before .before .before .before .args .block) (c .before .before .before .before .before .pre .0) (c .before .before .before .before .before .pre .1) _ (c .before .before .before .block-of .ensures) _ (c .before .mixed .given .1))
+
 enum-told-2 : tie.Need-enum-told-2
 enum-told-2 c = search needs
 
-enum-told-3 : tie.Need-enum-told-3
-enum-told-3 c = search needs
-
-mixed-block-sound-requires : tie.Need-mixed-block-sound-requires
-mixed-block-sound-requires c κs = (c .before .before .before .before .pre .0, c .before .before .before .before .pre .1, (sym (c .before .before .block-state .ensures) ∙ c .enum-told3 .given .1))
-
 returns : tie.Need-returns
-returns c = empty-told _ _ _ (sym (c .before .before .block-state .ensures) ∙ c .enum-told .given .1)
+returns c = unmixed-told (c .before .before .before .before .args .head) (c .before .before .before .before .args .storage .now) (c .before .before .before .before .args .block) (c .before .before .before .before .pre .0) (c .before .before .before .before .pre .1) _ (c .before .before .block-of .ensures) (c .enum-told .given .1)
 
 returns-2 : tie.Need-returns-2
-returns-2 c = full-told _ _ _ (sym (c .before .before .block-state .ensures) ∙ c .enum-told2 .given .1)
+returns-2 c =
+    let u : Words (c .before .before .before .before .before .before .args .storage .now) = λ k. omega (arith, c .before .before .before .before .before .shared-slice-known .given k) in
+    block-told (c .before .before .before .before .before .before .args .head) (c .before .before .before .before .before .before .args .storage .now) (c .before .before .before .before .before .before .args .block) (c .before .before .before .before .before .before .pre .0) (c .before .before .before .before .before .before .pre .1) _ (c .before .before .before .before .block-of .ensures) _ u (c .before .before .mixed .given .1) (c .mixed-block-sound .ensures)
 
 returns-3 : tie.Need-returns-3
-returns-3 c = told-as (c .mixed-block-sound .ensures) (λ z m. z) (λ f. f (sym (c .before .before .before .block-state .ensures) ∙ c .before .enum-told3 .given .1))
+returns-3 c = absurd (never-refused (c .before .before .before .before .args .head) (c .before .before .before .before .args .storage .now) (c .before .before .before .before .args .block) (c .before .before .before .before .pre .0) (c .before .before .before .before .pre .1) _ (c .before .before .block-of .ensures) _ (c .enum-told2 .given .1))
 
 pub block-sound-spec : {M : Type 1} → statement M
 block-sound-spec =
     tie.close
     (tie.spec
-    block-state-requires
+    mul-block-of
+    block-of-requires
     enum-told
-    enum-told-2
-    enum-told-3
+    enum-known-mixed
     mixed-block-sound-requires
+    enum-told-2
     returns
     returns-2
     returns-3)

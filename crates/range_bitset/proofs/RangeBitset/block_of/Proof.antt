@@ -1,0 +1,60 @@
+-- `block_of` meets its contract. Assumes nothing.
+use mathlib.Core.Path.{refl, ap, sym, _∙_}
+use native.Mathlib.Omega.{arith}
+use Rattle.range_bitset.specs.declared.ShownBlock.the-variants as block
+use Rattle.range_bitset.proofs.Heads.{point-accepted}
+use Rattle.range_bitset.proofs.Showing.{hides, block-shown}
+use borrow.Author.Needs.{needs}
+use Rattle.range_bitset.proofs.RangeBitset.block_of.Statement.{statement}
+use Rattle.range_bitset.proofs.RangeBitset.block_of.Tie as tie
+
+point-refusal-requires : tie.Need-point-refusal-requires
+point-refusal-requires c κs = search needs
+
+returns : tie.Need-returns
+returns c = hides _ _ _ _ (c .before .point-refusal .ensures) (c .if1 .taken)
+
+cast-words : tie.Need-cast-words
+cast-words c = search needs
+
+block-state-requires : tie.Need-block-state-requires
+block-state-requires c κs = let q = point-accepted _ _ _ (sym (c .before .before .point-refusal .ensures) ∙ c .before .if1 .left) in (q .0, omega (arith, q .1))
+
+enum-told : tie.Need-enum-told
+enum-told c = search needs
+
+enum-told-2 : tie.Need-enum-told-2
+enum-told-2 c = search needs
+
+enum-told-3 : tie.Need-enum-told-3
+enum-told-3 c = search needs
+
+mixed-block-requires : tie.Need-mixed-block-requires
+mixed-block-requires c κs = let q = point-accepted _ _ _ (sym (c .before .before .before .before .before .point-refusal .ensures) ∙ c .before .before .before .before .if1 .left) in (q .0, omega (arith, q .1))
+
+returns-2 : tie.Need-returns-2
+returns-2 c = block-shown _ _ _ _ _ (sym (c .before .before .before .before .before .point-refusal .ensures) ∙ c .before .before .before .before .if1 .left) (sym (c .before .before .block-state .ensures) ∙ c .enum-told .given .1) refl
+
+returns-3 : tie.Need-returns-3
+returns-3 c = block-shown _ _ _ _ _ (sym (c .before .before .before .before .before .point-refusal .ensures) ∙ c .before .before .before .before .if1 .left) (sym (c .before .before .block-state .ensures) ∙ c .enum-told2 .given .1) refl
+
+returns-4 : tie.Need-returns-4
+returns-4 c =
+    block-shown _ _ _ _ _ (sym (c .before .before .before .before .before .before .point-refusal .ensures) ∙ c .before .before .before .before .before .if1 .left) (sym (c .before .before .before .block-state .ensures) ∙ c .before .enum-told3 .given .1)
+    (ap block.Mixed (c .mixed-block .ensures))
+
+pub block-of-spec : {M : Type 1} → statement M
+block-of-spec =
+    tie.close
+    (tie.spec
+    point-refusal-requires
+    returns
+    cast-words
+    block-state-requires
+    enum-told
+    enum-told-2
+    enum-told-3
+    mixed-block-requires
+    returns-2
+    returns-3
+    returns-4)

@@ -1,0 +1,66 @@
+-- `top_masks` meets its contract. Assumes nothing.
+use mathlib.Core.Path.{sym, _∙_}
+use native.Mathlib.Omega.{arith}
+use Rattle.range_bitset.proofs.Heads.{accepted}
+use Rattle.range_bitset.proofs.Showing.{hides, tops-shown}
+use borrow.Author.Needs.{needs}
+use Rattle.range_bitset.proofs.RangeBitset.top_masks.Statement.{statement}
+use Rattle.range_bitset.proofs.RangeBitset.top_masks.Tie as tie
+
+refusal-requires : tie.Need-refusal-requires
+refusal-requires c κs = search needs
+
+returns : tie.Need-returns
+returns c = hides _ _ _ _ (c .before .refusal .ensures) (c .if1 .taken)
+
+cast-words : tie.Need-cast-words
+cast-words c = search needs
+
+top-nonzero-slot-requires : tie.Need-top-nonzero-slot-requires
+top-nonzero-slot-requires c κs = accepted (c .before .before .before .before .args .self) (c .before .before .before .before .args .storage .now) (sym (c .before .before .refusal .ensures) ∙ c .before .if1 .left) .most
+
+top-full-slot-requires : tie.Need-top-full-slot-requires
+top-full-slot-requires c κs = accepted (c .before .before .before .before .before .args .self) (c .before .before .before .before .before .args .storage .now) (sym (c .before .before .before .refusal .ensures) ∙ c .before .before .if1 .left) .most
+
+mul-t7 : tie.Need-mul-t7
+mul-t7 c = search needs
+
+shared-slice-read-t10 : tie.Need-shared-slice-read-t10
+shared-slice-read-t10 c = omega (arith, c .before .before .top-nonzero-slot .ensures, accepted (c .before .before .before .before .before .before .before .args .self) (c .before .before .before .before .before .before .before .args .storage .now) (sym (c .before .before .before .before .before .refusal .ensures) ∙ c .before .before .before .before .if1 .left) .long)
+
+mul-t11 : tie.Need-mul-t11
+mul-t11 c = search needs
+
+shared-slice-read-t13 : tie.Need-shared-slice-read-t13
+shared-slice-read-t13 c = omega (arith, c .before .before .top-full-slot .ensures, accepted (c .before .before .before .before .before .before .before .before .args .self) (c .before .before .before .before .before .before .before .before .args .storage .now) (sym (c .before .before .before .before .before .before .refusal .ensures) ∙ c .before .before .before .before .before .if1 .left) .long)
+
+blocks-requires : tie.Need-blocks-requires
+blocks-requires c κs = accepted (c .before .before .before .before .before .before .before .before .args .self) (c .before .before .before .before .before .before .before .before .args .storage .now) (sym (c .before .before .before .before .before .before .refusal .ensures) ∙ c .before .before .before .before .before .if1 .left) .most
+
+span-requires : tie.Need-span-requires
+span-requires c κs =
+    let r = accepted (c .before .before .before .before .before .before .before .before .before .args .self) (c .before .before .before .before .before .before .before .before .before .args .storage .now) (sym (c .before .before .before .before .before .before .before .refusal .ensures) ∙ c .before .before .before .before .before .before .if1 .left) in
+    (omega (arith, c .blocks2 .ensures, r .some), omega (arith, c .blocks2 .ensures, r .most))
+
+returns-2 : tie.Need-returns-2
+returns-2 c =
+    let args = c .before .before .before .before .before .before .before .before .before .before .args in
+    tops-shown (args .self) (args .storage .now) _ _ _ _ (sym (c .before .before .before .before .before .before .before .before .refusal .ensures) ∙ c .before .before .before .before .before .before .before .if1 .left)
+    (c .before .before .before .before .before .top-nonzero-slot .ensures) (c .before .before .before .before .top-full-slot .ensures) (c .before .blocks2 .ensures) (c .span .ok) (c .span .ensures)
+
+pub top-masks-spec : {M : Type 1} → statement M
+top-masks-spec =
+    tie.close
+    (tie.spec
+    refusal-requires
+    returns
+    cast-words
+    top-nonzero-slot-requires
+    top-full-slot-requires
+    mul-t7
+    shared-slice-read-t10
+    mul-t11
+    shared-slice-read-t13
+    blocks-requires
+    span-requires
+    returns-2)
