@@ -20,14 +20,14 @@ use Rattle.range_bitset.specs.Entries.{ClearEnsures}
 use Rattle.range_bitset.specs.declared.RangeBitset.{RangeBitset}
 use Rattle.range_bitset.specs.declared.Assigned.{Assigned}
 use Rattle.ledger.specs.Machine.{Machine, Standing, Call, Range, Back, Wipe, held, setOf, population, needs, used, made, Stands, Made, withStanding, step}
-use Rattle.ledger.specs.Journal.{entry, written, journalOf}
+use Rattle.ledger.specs.Journal.{entry, journalOf}
 use Rattle.ledger.specs.Memory.{Memory, memory, Holds, lentRefusal, wipeRefusal, callRefusal}
 use Rattle.ledger.specs.Entries.{CallEnsures, restores, flagAfter}
 use Rattle.ledger.specs.Inner.{lastOf, readRuns, changedByRuns, Within, AssignsRuns}
 use Rattle.ledger.specs.declared.Ledger.{Ledger}
 use Rattle.ledger.specs.declared.Last.{Last}
 use Rattle.ledger.specs.declared.Last.the-variants as last
-use Rattle.ledger.proofs.Machines.{kept-fresh, kept-step, stayed, step-none, step-back, none-standing, set-after-back, journal-length}
+use Rattle.ledger.proofs.Machines.{standing-entry, kept-fresh, kept-step, stayed, step-none, step-back, none-standing, set-after-back, journal-length}
 use Rattle.ledger.proofs.Journals.{length-entry, entry-last, packed-runs, packed-value, read-entry}
 use Rattle.ledger.proofs.Reassigning.{read-take, changed-within, any-lengths, back-count}
 use Rattle.ledger.proofs.Refusals.{LentEnough, lent-accepted, lent-again, ledger-set, lent-wipes, wipe-accepted, set-accepts}
@@ -221,7 +221,7 @@ module _ (h : Ledger) (st j : List ℕ) where
       flag : h′ .allocated ≡ (h .set .allocated || (not (c .value) && ltb 0 (c .changed)))
 
     done : (m : Machine) → Holds (memory h st j) m → (c : Standing) (cs : List Standing) → m .standing ≡ c ∷ cs → Back-done m c cs
-    unfolding setOf used written made
+    unfolding setOf used made
     done m q c cs e =
         record {
           answered = omega (arith, b .changed ok S t w, counted, few);
@@ -253,7 +253,7 @@ module _ (h : Ledger) (st j : List ℕ) where
         room = omega (arith, lent .used-most, lent .journal-long)
 
         split : take (h .used) j ≡ l ++ entry rs (c .value)
-        split = rw e at (q .journal)
+        split = (rw e at (q .journal)) ∙ ap (λ (x : List ℕ). l ++ x) (standing-entry (m .capacity) s c stands)
 
         ok : storageRefusal (h .set) (length st) ≡ 0
         ok = set-accepts h (length st) (lent .good) (lent .long)
