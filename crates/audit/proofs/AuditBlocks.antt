@@ -4,7 +4,7 @@ use mathlib.Core.Path.{_≡_, refl, ap, sym, _∙_, subst, ap₂}
 use mathlib.Core.Logic.{_≢_}
 use mathlib.Core.Bool.{Bool, true, false, not, _&&_, true≢false, false≢true}
 use mathlib.Core.List.{List}
-use Prim.Native.Nat.{ℕ, suc, zero-le, _+_, _*_, _-_, _%_, _^_, _<_}
+use Prim.Native.Nat.{ℕ, suc, zero-le, _+_, _*_, _-_, _/_, _%_, _^_, _≤_, _<_}
 use native.Mathlib.Nat.{lt-of-le-of-lt, mod-lt, mod-le}
 use native.Mathlib.Omega.{arith}
 use lib.Bits.{bitAnd, and-le-l}
@@ -15,16 +15,17 @@ use lib.Pow.{pow-pos}
 use borrow.Author.Tests.{le-leb, eqb-true, eqb-false, lt-ltb, ltb-true, not-true, not-false}
 use Rattle.positions.specs.Positions.{count}
 use Rattle.positions.proofs.Bools.{and-left, and-right}
+use Rattle.positions.proofs.Counts.{count-none, count-all}
 use Rattle.bits.specs.Bit.{bit}
 use Rattle.bits.proofs.Bits.{bit-zero, bit-and, bit-ones, bit-mod, bit-ext, bit-none}
 use Rattle.bits.proofs.Masks.{bit-without}
 use Rattle.bits.proofs.Ones.{tz-set, bit-drop-lowest}
 use Rattle.range_bitset.specs.Layout.{blocks, wordsOf, at, nonzero, full}
-use Rattle.range_bitset.specs.Read.{ALL, stateOf, mixedRead}
+use Rattle.range_bitset.specs.Read.{ALL, stateOf, mixedRead, wordRead, byState}
 use Rattle.range_bitset.specs.Represents.{valid, blockCount}
 use Rattle.audit.specs.Sound.{plain, SoundBlock, Words}
 use Rattle.range_bitset.specs.Inner.{Room, mixedCount}
-use Rattle.range_bitset.specs.Shown.{mixedOf, blockBy}
+use Rattle.range_bitset.specs.Shown.{mixedOf, blockOf}
 use Rattle.audit.specs.Inner.{Tells, SoundMasks, InWords, SoundWords, SoundMixed}
 use Rattle.range_bitset.specs.declared.MixedBlock.{MixedBlock}
 use Rattle.range_bitset.specs.declared.ShownBlock.{ShownBlock}
@@ -165,6 +166,26 @@ module _ (W : ℕ) (st : List ℕ) (b : ℕ) where
       ∙ ap (count (plain W st) (64 * (64 * b + j))) next)
       ∙ ap₂ (count (plain W st)) from to
 
+  -- a position of the block, by the block's state
+  place : (x : State) → stateOf W st b ≡ x → (i : ℕ) → 4096 * b ≤ i → i < 4096 * b + 64 * wordsOf W b
+      → plain W st i ≡ bit (byState x (mixedRead W st (i / 64))) (i % 64)
+  unfolding plain
+  place x m i l h =
+      let d : i / 64 ≡ 64 * b + (i / 64 - 64 * b) = omega arith in
+      ap (λ (y : ℕ). bit y (i % 64))
+      (ap (wordRead W st) d ∙ read-by W st b x m (i / 64 - 64 * b) (omega arith) ∙ ap (λ (y : ℕ). byState x (mixedRead W st y)) (sym d))
+
+  pub empty-counted : stateOf W st b ≡ Empty → blockCount W (plain W st) b ≡ 0
+  unfolding blockCount
+  empty-counted m = count-none (plain W st) _ _ (λ i l h. place Empty m i l h ∙ bit-zero (i % 64))
+
+  pub full-counted : stateOf W st b ≡ Full → blockCount W (plain W st) b ≡ 64 * wordsOf W b
+  unfolding blockCount
+  full-counted m =
+      count-all (plain W st) (4096 * b) (4096 * b + 64 * wordsOf W b)
+      (λ i l h. place Full m i l h ∙ bit-ones 64 (i % 64) ∙ lt-ltb (i % 64) 64 (omega arith))
+      ∙ omega arith
+
 -- ---- a block
 
 -- the words of a block lie in the storage
@@ -220,34 +241,57 @@ module _ (W : ℕ) (st : List ℕ) (b : ℕ) (u : Words st) (m : stateOf W st b 
 -- ---- a block by what is shown of it
 
 tag : ShownBlock → ℕ
-tag block.Unmixed = 0
+tag block.Empty = 0
 tag (block.Mixed m) = 1
-tag (block.Refused k) = 2
+tag (block.Full n) = 2
+tag (block.Refused k) = 3
+
+size : ShownBlock → ℕ
+size block.Empty = 0
+size (block.Mixed m) = 0
+size (block.Full n) = n
+size (block.Refused k) = 0
 
 held : MixedBlock → ShownBlock → MixedBlock
-held d block.Unmixed = d
+held d block.Empty = d
 held d (block.Mixed m) = m
+held d (block.Full n) = d
 held d (block.Refused k) = d
 
-module _ (x : State) (m : MixedBlock) (r : ShownBlock) (e : r ≡ blockBy x m) where
-  pub shown-unmixed : r ≡ block.Unmixed → x ≡ Mixed → ⊥
+-- r shows block b of the state x
+module _ (W : ℕ) (st : List ℕ) (b : ℕ) (x : State) (r : ShownBlock) (e : r ≡ blockOf W st b x) where
+  -- it is shown by its own state
+  state-of : (y : State) → tag r ≡ tag (blockOf W st b y) → x ≡ y
   unfolding tag
-  shown-unmixed p q = let z : _≡_ {A = ℕ} 0 1 = ap tag (sym p ∙ e ∙ ap (λ (y : State). blockBy y m) q) in absurd (omega arith)
+  state-of y p = by x y (ap tag (sym e) ∙ p)
+    where
+      by : (x y : State) → tag (blockOf W st b x) ≡ tag (blockOf W st b y) → x ≡ y
+      by Empty Empty q = refl
+      by Empty Mixed q = absurd (omega (arith, q))
+      by Empty Full q = absurd (omega (arith, q))
+      by Mixed Empty q = absurd (omega (arith, q))
+      by Mixed Mixed q = refl
+      by Mixed Full q = absurd (omega (arith, q))
+      by Full Empty q = absurd (omega (arith, q))
+      by Full Mixed q = absurd (omega (arith, q))
+      by Full Full q = refl
+
+  pub shown-empty : r ≡ block.Empty → x ≡ Empty
+  shown-empty p = state-of Empty (ap tag p)
+
+  pub shown-full : (n : ℕ) → r ≡ block.Full n → (x ≡ Full) × (n ≡ 64 * wordsOf W b)
+  unfolding tag size
+  shown-full n p = let q = state-of Full (ap tag p) in (q, ap size (sym p ∙ e ∙ ap (blockOf W st b) q))
+
+  pub shown-mixed : (m : MixedBlock) → r ≡ block.Mixed m → (x ≡ Mixed) × (m ≡ mixedOf W st b)
+  unfolding tag held
+  shown-mixed m p = let q = state-of Mixed (ap tag p) in (q, ap (held m) (sym p ∙ e ∙ ap (blockOf W st b) q))
 
   pub shown-refused : (k : ℕ) → r ≡ block.Refused k → ⊥
   unfolding tag
   shown-refused k p = by x (ap tag (sym p ∙ e))
     where
-      by : (y : State) → 2 ≡ tag (blockBy y m) → ⊥
+      by : (y : State) → 3 ≡ tag (blockOf W st b y) → ⊥
       by Empty q = absurd (omega arith)
       by Mixed q = absurd (omega arith)
       by Full q = absurd (omega arith)
-
-  pub shown-mixed : (m′ : MixedBlock) → r ≡ block.Mixed m′ → (x ≡ Mixed) × (m′ ≡ m)
-  unfolding tag held
-  shown-mixed m′ p = by x refl (sym p ∙ e)
-    where
-      by : (y : State) → x ≡ y → block.Mixed m′ ≡ blockBy y m → (x ≡ Mixed) × (m′ ≡ m)
-      by Empty d q = let z : _≡_ {A = ℕ} 1 0 = ap tag q in absurd (omega arith)
-      by Full d q = let z : _≡_ {A = ℕ} 1 0 = ap tag q in absurd (omega arith)
-      by Mixed d q = (d, ap (held m) q)

@@ -4,23 +4,24 @@
 ghost use mathlib.Core.Path.{_≡_};
 ghost use mathlib.Core.Bool.{true};
 ghost use Prim.Native.Nat.{ℕ, _<_};
-ghost use lib.Dec.{eqb};
 ghost use lib.ListN.{length};
-ghost use Rattle.positions.specs.Positions.{count};
 ghost use Rattle.bits.specs.Bit.{bit};
 ghost use Rattle.range_bitset.specs.Layout.{blocks};
-ghost use Rattle.range_bitset.specs.Represents.{capacityOf};
 ghost use Rattle.range_bitset.specs.Answers.{storageRefusal};
-ghost use Rattle.audit.specs.Sound.{plain, SoundStorage};
 ghost use Rattle.audit.specs.Entry.{AuditEnsures};
-ghost use Rattle.audit.specs.Inner.{Tells, SoundMasks, InWords, SoundWords, SoundMixed, SoundAt, SoundBlocks};
+ghost use Rattle.audit.specs.Inner.{Tells, SoundMasks, InWords, SoundWords, SoundMixed, BlockAudited, BlocksAudited, StorageAudited};
 use range_bitset::ALL;
-use range_bitset::Counted;
 use range_bitset::MixedBlock;
 use range_bitset::RangeBitset;
 use range_bitset::ShownBlock;
 use range_bitset::ShownTops;
 use range_bitset::Tested;
+
+// Whether the rules are met and, if so, how many positions there are.
+enum Audited {
+    Sound(u32),
+    Unsound,
+}
 
 // Whether every bit of `part` is one of `whole`.
 fn lies_within(part: u64, whole: u64) -> bool
@@ -80,56 +81,54 @@ fn mixed_block_sound(storage: &[u64], block: usize, mixed: MixedBlock) -> bool
     mixed.population == mixed.counted as u64
 }
 
-// Whether `block` meets the rules, which ask nothing of one that is all clear or all set.
-fn block_sound(head: RangeBitset, storage: &[u64], block: usize) -> bool
+// The rules ask nothing of a block that is all clear or all set.
+fn block_audit(head: RangeBitset, storage: &[u64], block: usize) -> Audited
     requires { ⌜ (storageRefusal head (length (now storage)) ≡ 0) × (block < blocks (head .words)) ⌝ }
-    ensures { λ r. ⌜ Tells r (SoundAt (head .words) (now (storage .entry)) block) ⌝ }
+    ensures { λ r. ⌜ BlockAudited (head .words) (now (storage .entry)) block r ⌝ }
 {
     match head.block_of(storage, 4096 * block) {
-        ShownBlock::Unmixed => true,
-        ShownBlock::Mixed(mixed) => mixed_block_sound(storage, block, mixed),
-        ShownBlock::Refused(_) => false,
+        ShownBlock::Empty => Audited::Sound(0),
+        ShownBlock::Full(size) => Audited::Sound(size),
+        ShownBlock::Mixed(mixed) => {
+            if mixed_block_sound(storage, block, mixed) {
+                Audited::Sound(mixed.counted)
+            } else {
+                Audited::Unsound
+            }
+        }
+        ShownBlock::Refused(_) => Audited::Unsound,
     }
 }
 
-fn blocks_sound(head: RangeBitset, storage: &[u64]) -> bool
+fn blocks_audit(head: RangeBitset, storage: &[u64]) -> Audited
     requires { ⌜ storageRefusal head (length (now storage)) ≡ 0 ⌝ }
-    ensures { λ r. ⌜ Tells r (SoundBlocks (head .words) (now (storage .entry)) (blocks (head .words))) ⌝ }
+    ensures { λ r. ⌜ BlocksAudited (head .words) (now (storage .entry)) r ⌝ }
 {
     let capacity = 64 * head.words as usize;
     let mut block = 0;
+    let mut population = 0u32;
     while 4096 * block < capacity {
-        if !block_sound(head, storage, block) {
-            return false;
-        }
+        let Audited::Sound(more) = block_audit(head, storage, block) else {
+            return Audited::Unsound;
+        };
+        population += more;
         block += 1;
     }
-    true
+    Audited::Sound(population)
 }
 
-fn storage_sound(head: RangeBitset, storage: &[u64]) -> bool
+fn storage_audit(head: RangeBitset, storage: &[u64]) -> Audited
     requires { ⌜ storageRefusal head (length (now storage)) ≡ 0 ⌝ }
-    ensures { λ r. ⌜ Tells r (SoundStorage (head .words) (now (storage .entry))) ⌝ }
+    ensures { λ r. ⌜ StorageAudited (head .words) (now (storage .entry)) r ⌝ }
 {
     match head.top_masks(storage) {
         ShownTops::Tops(tops) => {
             if !masks_sound(tops.nonzero, tops.full, tops.valid) {
-                return false;
+                return Audited::Unsound;
             }
-            blocks_sound(head, storage)
+            blocks_audit(head, storage)
         }
-        ShownTops::Refused(_) => false,
-    }
-}
-
-// Whether the head's population is that of a sound storage.
-fn population_sound(head: RangeBitset, storage: &[u64]) -> bool
-    requires { ⌜ (storageRefusal head (length (now storage)) ≡ 0) × SoundStorage (head .words) (now storage) ⌝ }
-    ensures { λ r. ⌜ r ≡ eqb (head .len) (count (plain (head .words) (now (storage .entry))) 0 (capacityOf head)) ⌝ }
-{
-    match head.recount(storage) {
-        Counted::Count(population) => head.len == population,
-        Counted::Refused(_) => false,
+        ShownTops::Refused(_) => Audited::Unsound,
     }
 }
 
@@ -145,8 +144,8 @@ pub fn audit(head: RangeBitset, storage: &[u64]) -> Tested
     if !allocated {
         return Tested::Is(head.len == 0);
     }
-    if !storage_sound(head, storage) {
-        return Tested::Is(false);
+    match storage_audit(head, storage) {
+        Audited::Sound(population) => Tested::Is(head.len == population),
+        Audited::Unsound => Tested::Is(false),
     }
-    Tested::Is(population_sound(head, storage))
 }

@@ -2,7 +2,7 @@
 use mathlib.Core.Path.{_≡_, refl, ap, sym, _∙_}
 use mathlib.Core.Bool.{Bool, _&&_}
 use mathlib.Core.List.{List}
-use Prim.Native.Nat.{ℕ, zero-le, _*_, _-_, _/_, _^_, _≤_, _<_}
+use Prim.Native.Nat.{ℕ, zero-le, _-_, _/_, _^_, _≤_, _<_}
 use native.Mathlib.Nat.{lt-of-lt-of-le}
 use native.Mathlib.Omega.{arith}
 use lib.Dec.{ltb}
@@ -13,9 +13,9 @@ use Rattle.bits.proofs.Bits.{bit-ones, bit-ext}
 use Rattle.range_bitset.specs.Layout.{blocks, wordsOf, address, nonzero, full, population, topNonzero, topFull}
 use Rattle.range_bitset.specs.Read.{stateOf}
 use Rattle.range_bitset.specs.Represents.{valid}
-use Rattle.range_bitset.specs.Answers.{Number, storageRefusal, pointRefusal}
-use Rattle.range_bitset.specs.Inner.{Spans, mixedCount, Counts}
-use Rattle.range_bitset.specs.Shown.{Shows, TopsEnsures, mixedOf, blockBy, BlockEnsures, RecountEnsures}
+use Rattle.range_bitset.specs.Answers.{storageRefusal, pointRefusal}
+use Rattle.range_bitset.specs.Inner.{Spans, mixedCount}
+use Rattle.range_bitset.specs.Shown.{Shows, TopsEnsures, mixedOf, blockOf, BlockEnsures}
 use Rattle.range_bitset.specs.declared.RangeBitset.{RangeBitset}
 use Rattle.range_bitset.specs.declared.Counted.the-variants as counted
 use Rattle.range_bitset.specs.declared.MixedBlock.{MixedBlock}
@@ -60,15 +60,5 @@ valid-fits W b e = let p = pow-pos (wordsOf W b) in omega arith
 
 -- the block in a state, with the numbers shown of it
 pub block-shown : (h : RangeBitset) (st : List ℕ) (i : ℕ) (x : State) (r : ShownBlock) → pointRefusal h (length st) i ≡ 0 → stateOf (h .words) st (i / 4096) ≡ x
-    → r ≡ blockBy x (mixedOf (h .words) st (i / 4096)) → BlockEnsures h st i r
-block-shown h st i x r e p q = shown _ _ _ _ e (q ∙ ap (λ (y : State). blockBy y (mixedOf (h .words) st (i / 4096))) (sym p))
-
--- ---- the population
-
-pub recount-declined : (h : RangeBitset) (st : List ℕ) (k : ℕ) → k ≡ storageRefusal h (length st) → (k ≡ 0 → ⊥) → RecountEnsures h st (counted.Refused k)
-recount-declined h st k e z =
-    record { refuses = e; accepts = λ p. absurd (z (e ∙ p)); counts = λ p. absurd (z (e ∙ p)) }
-
-pub recounted : (h : RangeBitset) (st : List ℕ) (n : ℕ) → storageRefusal h (length st) ≡ 0 → Counts (h .words) (64 * 0) (64 * h .words) st n
-    → RecountEnsures h st (counted.Count n)
-recounted h st n e c = record { refuses = sym e; accepts = λ p. tt; counts = λ p s r. ap Number (c s r) }
+    → r ≡ blockOf (h .words) st (i / 4096) x → BlockEnsures h st i r
+block-shown h st i x r e p q = shown _ _ _ _ e (q ∙ ap (blockOf (h .words) st (i / 4096)) (sym p))

@@ -2,16 +2,14 @@
 -- none of it. Assumes nothing.
 use mathlib.Core.Path.{_≡_}
 use mathlib.Core.List.{List}
-use Prim.Native.Nat.{ℕ, _-_, _/_, _^_}
+use Prim.Native.Nat.{ℕ, _*_, _-_, _/_, _^_}
 use lib.ListN.{length}
-use Rattle.positions.specs.Positions.{Positions, count}
-use Rattle.range_bitset.specs.Layout.{blocks, at, nonzero, full, population, topNonzero, topFull}
+use Rattle.range_bitset.specs.Layout.{blocks, wordsOf, at, nonzero, full, population, topNonzero, topFull}
 use Rattle.range_bitset.specs.Read.{stateOf}
-use Rattle.range_bitset.specs.Represents.{valid, Stored, capacityOf}
-use Rattle.range_bitset.specs.Answers.{Number, ofCounted, refused, Accepted, storageRefusal, pointRefusal}
+use Rattle.range_bitset.specs.Represents.{valid}
+use Rattle.range_bitset.specs.Answers.{storageRefusal, pointRefusal}
 use Rattle.range_bitset.specs.Inner.{mixedCount}
 use Rattle.range_bitset.specs.declared.RangeBitset.{RangeBitset}
-use Rattle.range_bitset.specs.declared.Counted.{Counted}
 use Rattle.range_bitset.specs.declared.State.{State}
 use Rattle.range_bitset.specs.declared.State.the-variants.{Empty, Mixed, Full}
 use Rattle.range_bitset.specs.declared.Tops.{Tops}
@@ -41,10 +39,11 @@ mixedOf W st b =
       counted = mixedCount W st b (valid W b);
     }
 
-abbrev pub blockBy : State → MixedBlock → ShownBlock
-blockBy Empty m = block.Unmixed
-blockBy Mixed m = block.Mixed m
-blockBy Full m = block.Unmixed
+-- block b in a state: of one that is all set, how many positions it has
+abbrev pub blockOf : ℕ → List ℕ → ℕ → State → ShownBlock
+blockOf W st b Empty = block.Empty
+blockOf W st b Mixed = block.Mixed (mixedOf W st b)
+blockOf W st b Full = block.Full (64 * wordsOf W b)
 
 -- ---- the entries
 
@@ -55,10 +54,4 @@ TopsEnsures h st r = Shows (storageRefusal h (length st)) tops.Refused (tops.Top
 abbrev pub BlockEnsures : RangeBitset → List ℕ → ℕ → ShownBlock → Type 0
 BlockEnsures h st i r =
     Shows (pointRefusal h (length st) i) block.Refused
-    (blockBy (stateOf (h .words) st (i / 4096)) (mixedOf (h .words) st (i / 4096))) r
-
--- the population of the set that the storage holds, whatever population the head says
-pub record RecountEnsures (h : RangeBitset) (st : List ℕ) (r : Counted) : Type 0 where
-  pub refuses : refused (ofCounted r) ≡ storageRefusal h (length st)
-  pub accepts : storageRefusal h (length st) ≡ 0 → Accepted (ofCounted r)
-  pub counts : storageRefusal h (length st) ≡ 0 → (s : Positions) → Stored (h .words) st s → ofCounted r ≡ Number (count s 0 (capacityOf h))
+    (blockOf (h .words) st (i / 4096) (stateOf (h .words) st (i / 4096))) r

@@ -10,7 +10,7 @@
 //
 // The storage is lent with each call; the head goes in and comes back by value. Any head, number and memory is safe: an
 // entry refuses what 01's table refuses, and inside, sums wrap and masks are cut to the words and blocks that there are.
-// Assumes nothing of its callers: no entry has a `requires`. The last three entries are not the Rust's: `audit` reads by them.
+// Assumes nothing of its callers: no entry has a `requires`. The last two entries are not the Rust's: `audit` reads by them.
 ghost use mathlib.Core.Path.{_≡_};
 ghost use mathlib.Core.Bool.{true, false, not, _&&_, cond};
 ghost use lib.Count.{ones};
@@ -27,7 +27,7 @@ ghost use Rattle.range_bitset.specs.Represents.{valid};
 ghost use Rattle.range_bitset.specs.Answers.{ofPlace, ofFound, goodHead, storageRefusal, rangeRefusal, pointRefusal};
 ghost use Rattle.range_bitset.specs.Entries.{newOf, CapacityEnsures, LenEnsures, GetEnsures, CountEnsures, NextEnsures, AssignEnsures, SetEnsures, ClearEnsures};
 ghost use Rattle.range_bitset.specs.Inner.{Room, Spans, apart, moved, stores, openWith, writeWord, countMoved, writeMasks, writeTops, Opens, Closes, Assigns, Begins, mixedCount, wordsCount, blocksCount, Counts, CandidateWords, CandidateBlocks, NextInWord, NextAfter, BitsFrom};
-ghost use Rattle.range_bitset.specs.Shown.{mixedOf, TopsEnsures, BlockEnsures, RecountEnsures};
+ghost use Rattle.range_bitset.specs.Shown.{mixedOf, TopsEnsures, BlockEnsures};
 
 pub const ALL: u64 = u64::MAX;
 
@@ -157,10 +157,11 @@ pub enum ShownTops {
     Refused(u8),
 }
 
-// Of a block that is all clear or all set nothing is shown, since nothing below the top masks is read of it.
+// Of a block that is all clear nothing is shown, and of one that is all set only its size: nothing below the top masks is read of it.
 pub enum ShownBlock {
-    Unmixed,
+    Empty,
     Mixed(MixedBlock),
+    Full(u32),
     Refused(u8),
 }
 
@@ -1091,21 +1092,9 @@ impl RangeBitset {
         let words = self.words as usize;
         let block = index / 4096;
         match Self::block_state(storage, words, block) {
-            State::Empty => ShownBlock::Unmixed,
-            State::Full => ShownBlock::Unmixed,
+            State::Empty => ShownBlock::Empty,
+            State::Full => ShownBlock::Full(64 * Self::words_per_block(words, block) as u32),
             State::Mixed => ShownBlock::Mixed(Self::mixed_block(storage, words, block)),
         }
-    }
-
-    // How many positions the storage has, whatever population the head says.
-    pub fn recount(self, storage: &[u64]) -> Counted
-        ensures { λ r. ⌜ RecountEnsures self (now (storage .entry)) r ⌝ }
-    {
-        let refused = Self::refusal(self, storage.len());
-        if refused != 0 {
-            return Counted::Refused(refused);
-        }
-        let words = self.words as usize;
-        Counted::Count(Self::whole_words_population(storage, words, 0, words))
     }
 }

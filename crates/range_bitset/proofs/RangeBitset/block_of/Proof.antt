@@ -1,6 +1,7 @@
 -- `block_of` meets its contract. Assumes nothing.
 use mathlib.Core.Path.{refl, ap, sym, _∙_}
 use native.Mathlib.Omega.{arith}
+use Prim.Native.Nat.{ℕ, _*_}
 use Rattle.range_bitset.specs.declared.ShownBlock.the-variants as block
 use Rattle.range_bitset.proofs.Heads.{point-accepted}
 use Rattle.range_bitset.proofs.Showing.{hides, block-shown}
@@ -26,6 +27,15 @@ enum-told c = search needs
 enum-told-2 : tie.Need-enum-told-2
 enum-told-2 c = search needs
 
+words-per-block-requires : tie.Need-words-per-block-requires
+words-per-block-requires c κs = let q = point-accepted (c .before .before .before .before .before .before .before .args .self) (c .before .before .before .before .before .before .before .args .storage .now) (c .before .before .before .before .before .before .before .args .index) (sym (c .before .before .before .before .before .point-refusal .ensures) ∙ c .before .before .before .before .if1 .left) in (q .0 .most, omega (arith, q .1))
+
+cast-t12 : tie.Need-cast-t12
+cast-t12 c = search needs
+
+mul-t13 : tie.Need-mul-t13
+mul-t13 c = search needs
+
 enum-told-3 : tie.Need-enum-told-3
 enum-told-3 c = search needs
 
@@ -36,7 +46,9 @@ returns-2 : tie.Need-returns-2
 returns-2 c = block-shown _ _ _ _ _ (sym (c .before .before .before .before .before .point-refusal .ensures) ∙ c .before .before .before .before .if1 .left) (sym (c .before .before .block-state .ensures) ∙ c .enum-told .given .1) refl
 
 returns-3 : tie.Need-returns-3
-returns-3 c = block-shown _ _ _ _ _ (sym (c .before .before .before .before .before .point-refusal .ensures) ∙ c .before .before .before .before .if1 .left) (sym (c .before .before .block-state .ensures) ∙ c .enum-told2 .given .1) refl
+returns-3 c =
+    block-shown _ _ _ _ _ (sym (c .before .before .before .before .before .before .point-refusal .ensures) ∙ c .before .before .before .before .before .if1 .left) (sym (c .before .before .before .block-state .ensures) ∙ c .before .enum-told2 .given .1)
+    (ap (λ (n : ℕ). block.Full (64 * n)) (c .words-per-block .ensures))
 
 returns-4 : tie.Need-returns-4
 returns-4 c =
@@ -53,6 +65,9 @@ block-of-spec =
     block-state-requires
     enum-told
     enum-told-2
+    words-per-block-requires
+    cast-t12
+    mul-t13
     enum-told-3
     mixed-block-requires
     returns-2

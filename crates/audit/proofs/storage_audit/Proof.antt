@@ -1,0 +1,47 @@
+-- `audit::storage_audit` meets its contract. Assumes nothing.
+use Rattle.audit.proofs.Audits.{unsound, tops-shown, tops-stop, storage-told}
+use Rattle.audit.specs.Sound.{Words}
+use borrow.Author.Tests.{not-true, not-false}
+use native.Mathlib.Omega.{arith}
+use borrow.Author.Needs.{needs}
+use Rattle.audit.proofs.storage_audit.Statement.{statement}
+use Rattle.audit.proofs.storage_audit.Tie as tie
+
+top-masks-requires : tie.Need-top-masks-requires
+top-masks-requires c κs = search needs
+
+enum-known-tops : tie.Need-enum-known-tops
+enum-known-tops c = search needs
+
+masks-sound-requires : tie.Need-masks-sound-requires
+masks-sound-requires c κs = search needs
+
+returns : tie.Need-returns
+returns c = unsound (tops-stop (c .before .before .before .before .before .before .before .args .head) (c .before .before .before .before .before .before .before .args .storage .now) (c .before .before .before .before .before .before .before .pre) _ (c .before .before .before .before .before .top-masks .ensures) _ (c .before .before .before .tops .given .1) (c .before .masks-sound .ensures) (not-true _ (c .if1 .taken)))
+
+blocks-audit-requires : tie.Need-blocks-audit-requires
+blocks-audit-requires c κs = search needs
+
+enum-told : tie.Need-enum-told
+enum-told c = search needs
+
+returns-2 : tie.Need-returns-2
+returns-2 c =
+    let u : Words (c .before .before .before .before .before .before .before .before .args .storage .now) = λ k. omega (arith, c .before .before .before .before .before .before .before .shared-slice-known .given k) in
+    storage-told (c .before .before .before .before .before .before .before .before .args .head) (c .before .before .before .before .before .before .before .before .args .storage .now) (c .before .before .before .before .before .before .before .before .pre) _ (c .before .before .before .before .before .before .top-masks .ensures) _ u (c .before .before .before .before .tops .given .1) (c .before .before .masks-sound .ensures) (not-false _ (c .before .if1 .left)) (c .blocks-audit .ensures)
+
+returns-3 : tie.Need-returns-3
+returns-3 c = unsound (λ o. absurd (tops-shown (c .before .before .before .before .args .head) (c .before .before .before .before .args .storage .now) (c .before .before .before .before .pre) _ (c .before .before .top-masks .ensures) _ (c .enum-told .given .1)))
+
+pub storage-audit-spec : {M : Type 1} → statement M
+storage-audit-spec =
+    tie.close
+    (tie.spec
+    top-masks-requires
+    enum-known-tops
+    masks-sound-requires
+    returns
+    blocks-audit-requires
+    enum-told
+    returns-2
+    returns-3)
