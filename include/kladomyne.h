@@ -1,9 +1,10 @@
 /* Kladomyne's ledger library, for C and C++: the set of sheets, and the ledger, which is a set with an undo journal.
  *
  * Link target/staticlib/libcapi.a for the calls klado_set_ and target/staticlib/libcapi_ledger.a for the calls klado_ledger_,
- * which `rt staticlib capi` and `rt staticlib capi_ledger` make, on x86-64; neither needs a symbol from outside. examples/desk.c
- * is a short caller. The library allocates nothing, keeps nothing between calls, and reads and writes only what the caller lends
- * for the length of a call. Every symbol and type has the prefix `klado_`.
+ * which `rt staticlib capi` and `rt staticlib capi_ledger` make, on x86-64 Linux; neither needs a symbol from outside.
+ * examples/desk.c is a short caller. The library allocates nothing, keeps nothing between calls, and reads and writes only what the
+ * caller lends for the length of a call: calls may run in several threads at once where they share no lent memory, or only
+ * such as each of them takes as `const`. Every symbol and type has the prefix `klado_`.
  *
  * A set is a head, which goes in and comes back by value, and storage, which the caller owns and lends to each call.
  * It holds positions 0 up to its capacity, the capacity itself left out. A range start..end holds start and leaves
@@ -14,18 +15,20 @@
  * gives just those runs their old value again, the last standing call first. The set in a ledger's head can be asked
  * through the set's calls, with the ledger's storage; a ledger's set is changed by the ledger's calls alone.
  *
+ * Heads, storage and journals hold numbers and no addresses: together they may be copied, moved or stored.
+ *
  * What the caller owes. Nothing here can be checked by the library:
- *   - `storage` points to `storage_len` numbers, is not null (also where storage_len is 0), and is aligned to 8 bytes;
- *     `journal` points to `journal_len` numbers, is not null, and is aligned to 4 bytes; `file` points to `file_len` bytes and
- *     is not null. Where a pointer is not to `const`, nothing else reads or writes its numbers during the call, so that no
- *     two of them overlap; where it is, nothing writes them during the call.
+ *   - `storage` points to `storage_len` numbers and is aligned to 8 bytes; `journal` points to `journal_len` numbers and is
+ *     aligned to 4 bytes; `file` points to `file_len` bytes. None of the three is null, also where its length is 0.
+ *   - what is lent through a pointer not to `const` overlaps nothing else that is lent to the call, and nothing else reads or
+ *     writes it during the call; what is lent through a pointer to `const` is not written during the call.
  *   - what is lent may hold anything, but must be readable and initialised in C's sense: zero it or make it static.
  *   - a `bool` is 0 or 1, as C and C++ make it.
  * Nothing else is owed: any head, any numbers in the storage and any arguments are allowed, and each call then returns and
  * stays in the numbers that were lent. What the calls promise below of their answer is promised where head and storage
  * are a pair that these calls left behind: the head is the one that the last call gave, and the storage has not
  * been written since, nor, for a ledger, the journal's first U numbers. On any other memory an accepted call's answer, its head
- * and the numbers that it may write are free, and all that is said of refusals (but for 6 while U is below J) and of
+ * and the numbers that it may write may be anything, and all that is said of refusals (but for 6 while U is below J) and of
  * the other numbers still holds. What klado_set_audit, klado_ledger_new and klado_ledger_open promise is promised on any memory.
  *
  * Refusals. Every answer opens with `refused`: 0, or the number of the first of these rules that is broken, in this order:
@@ -39,7 +42,7 @@
  *   7  open alone: the file is under 11 bytes, its mark or version is wrong, or its length is not 11 + 8 * (its run count).
  *   8  open alone: a run of the file is empty, ends above the capacity, or does not start above the end of the run before it.
  *      `run` is the index of the first such run, counted from 0.
- * Open checks 7 but for the length, then 1, then 7 for the length, then 3, then 8.
+ * Open checks 7 (at least 11 bytes, mark, version), then 1, then 7 (11 + 8 * its run count), then 3, then 8.
  * A call that is refused writes nothing. Its other numbers are 0 (but for `run` with 8), and the head in its answer is the head
  * that it was given (for new and open a head of zeros, which every call refuses with 2). So a head can be replaced by the
  * answer's in every case.
@@ -130,15 +133,16 @@ klado_found klado_set_next_zero(klado_set head, const uint64_t *storage, size_t 
 /* Takes every position out, and answers how many there were. `allocated` stays as it is. Refused: 2, 3. */
 klado_set_answer klado_set_clear(klado_set head, uint64_t *storage, size_t storage_len);
 
-/* The audit: 1 where head and storage are sound, else 0: whether every number that the calls read agrees with the others. What
- * the calls leave behind is sound. Numbers that no call reads, such as the words of an empty set, may hold anything. It answers
- * so on any memory, and its work grows with the capacity. Refused: 2, 3. */
+/* The audit: answers 1 where every number that the calls read agrees with the others (head and storage are then sound), else 0.
+ * What the calls leave behind is sound. Numbers that no call reads, such as the words of an empty set, may hold anything. It cannot
+ * see a change that keeps the numbers in agreement, and does not look at a ledger's journal. It answers so on any memory, and its
+ * work grows with the capacity. Refused: 2, 3. */
 klado_answer klado_set_audit(klado_set head, const uint64_t *storage, size_t storage_len);
 
 /* The head of a ledger. To be read by anyone, and to be made and changed by the calls below alone. */
 typedef struct {
     klado_set set;
-    uint32_t  journal; /* J: how many journal numbers the calls are lent at least */
+    uint32_t  journal; /* J: the journal's length; each call that takes a journal must be lent at least so many numbers */
     uint32_t  used;    /* U: how many of them are in use */
 } klado_ledger;
 
@@ -163,7 +167,11 @@ klado_opened klado_ledger_new(size_t capacity, size_t limit, const uint64_t *sto
 
 /* A ledger that has the positions of a saved list, with a journal of J = `limit` numbers, and no calls: U = 0. Every run
  * of the file is checked before anything is written; what storage and journal hold before does not matter.
- * `allocated` is set where the file has at least one run. Refused: 7, 1, 3, 8. */
+ * `allocated` is set where the file has at least one run. Refused: 7, 1, 3, 8.
+ *
+ * A saved list, all numbers big-endian: the letters MSL, the version 1 (2 bytes), W (2 bytes), how many runs (4 bytes), then the
+ * runs, each a start and an end (4 bytes each), start < end <= 64 * W, each start above the end of the run before. The capacity
+ * is the file's, 64 * W; KLADO_SET_STORAGE_MOST numbers are enough for any file. The library does not write such files. */
 klado_opened klado_ledger_open(const uint8_t *file, size_t file_len, size_t limit, uint64_t *storage,
                                size_t storage_len, const uint32_t *journal, size_t journal_len);
 

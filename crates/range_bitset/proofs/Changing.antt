@@ -9,7 +9,7 @@ use lib.ListN.{drop, length}
 use borrow.Author.Tests.{eqb-true, eqb-false, eq-eqb, ne-eqb, lt-ltb, le-ltb}
 use Rattle.positions.specs.Positions.{Positions, none, within, assigned, count, changedCount, differ, lacking, one}
 use Rattle.positions.proofs.Ranges.{Place, inside, before, behind, place}
-use Rattle.positions.proofs.Counts.{count-none, count-zero, count-same, count-le}
+use Rattle.positions.proofs.Counts.{count-none, count-zero, count-le}
 use Rattle.positions.proofs.Assigned.{assigned-count, assigned-empty, assigned-none, changed-empty, changed-le}
 use Rattle.bits.proofs.Bits.{bit-pow}
 use Rattle.range_bitset.specs.Layout.{needed}
@@ -20,6 +20,7 @@ use Rattle.range_bitset.specs.Inner.{Room, Spans, Begins, Assigns}
 use Rattle.range_bitset.specs.declared.RangeBitset.{RangeBitset}
 use Rattle.range_bitset.specs.declared.Counted.the-variants as counted
 use Rattle.range_bitset.specs.declared.Tested.the-variants as tested
+use Rattle.range_bitset.proofs.Agreeing.{stored-agrees}
 use Rattle.range_bitset.proofs.Heads.{range-accepted, point-accepted, accepted-refused}
 
 abbrev headOf : ℕ → ℕ → Bool → RangeBitset
@@ -221,8 +222,11 @@ module _ (h : RangeBitset) (st : List ℕ) (i : ℕ) (v : Bool) (z : pointRefusa
 -- ---- `clear`
 
 module _ (h : RangeBitset) (st : List ℕ) (z : storageRefusal h (length st) ≡ 0) where
-  pub clear-fresh : h .allocated ≡ false → ClearEnsures h st (record { answer = counted.Count (h .len); head = h }) st
-  clear-fresh f =
+  empty : 0 ≡ count none 0 (capacityOf h)
+  empty = sym (count-none none 0 (capacityOf h) (λ i p q. refl))
+
+  pub clear-idle : eqb (h .len) 0 ≡ true → ClearEnsures h st (record { answer = counted.Count 0; head = h }) st
+  clear-idle f =
       record {
         refuses = sym z;
         accepts = λ w. tt;
@@ -230,34 +234,35 @@ module _ (h : RangeBitset) (st : List ℕ) (z : storageRefusal h (length st) ≡
         kept = refl;
         same-words = refl;
         idle = λ w o. (refl, refl);
-        answers = λ w s t. ap Number (t .counted);
-        head = λ w s t. head-is h _ _ (empty s t) (sym (or-false (h .allocated)));
+        answers = λ w s t. ap Number (sym nothing ∙ t .counted);
+        head = λ w s t. head-is h _ _ (nothing ∙ empty) (sym (or-false (h .allocated)));
         represents = λ w s t.
-            record { fresh = λ v i l. refl; begun = λ v. absurd (true≢false (sym v ∙ f)); counted = empty s t };
+            record {
+              fresh = λ v i l. refl;
+              begun = λ v. stored-agrees (h .words) s none (λ i l. count-zero s 0 (capacityOf h) (sym (t .counted) ∙ nothing) i (omega arith) l) st (t .begun v);
+              counted = nothing ∙ empty;
+            };
       }
     where
-      empty : (s : Positions) → Represents h st s → h .len ≡ count none 0 (capacityOf h)
-      empty s t = t .counted ∙ count-same s none 0 (capacityOf h) (λ i p q. t .fresh f i q)
+      nothing : h .len ≡ 0
+      nothing = eqb-true _ _ f
 
-  pub clear-begun : (st′ : List ℕ) → h .allocated ≡ true → Begins (h .words) false st st′
+  pub clear-done : (st′ : List ℕ) → eqb (h .len) 0 ≡ false → Begins (h .words) false st st′
       → ClearEnsures h st (record { answer = counted.Count (h .len); head = record { words = h .words; len = 0; allocated = h .allocated } }) st′
-  clear-begun st′ f b =
+  clear-done st′ f b =
       record {
         refuses = sym z;
         accepts = λ w. tt;
         unchanged = λ w. absurd (w z);
         kept = b .kept;
         same-words = refl;
-        idle = λ w o. absurd (false≢true w);
+        idle = λ w o. absurd (eqb-false _ _ f o);
         answers = λ w s t. ap Number (t .counted);
         head = λ w s t. head-is (headOf (h .words) 0 (h .allocated)) _ _ empty (sym (or-false (h .allocated)));
         represents = λ w s t.
             record {
-              fresh = λ v. absurd (true≢false (sym f ∙ v));
+              fresh = λ v i l. refl;
               begun = λ v. b .holds none (λ y. absurd (false≢true y)) (λ y i l. refl);
               counted = empty;
             };
       }
-    where
-      empty : 0 ≡ count none 0 (capacityOf h)
-      empty = sym (count-none none 0 (capacityOf h) (λ i p q. refl))

@@ -16,4 +16,5 @@ pub mod Populations
 pub mod CountPieces
 pub mod Candidates
 pub mod Searching
+pub mod Agreeing
 pub mod Showing

@@ -28,7 +28,7 @@ pub record Answers (k : ℕ) (h : RangeBitset) (st : List ℕ) (f : Positions �
   -- for every set that the memory represents: the one answer
   pub answers : k ≡ 0 → (s : Positions) → Represents h st s → r ≡ f s
 
--- `g s` is the set afterwards; `begins`: the call sets over at least one position; `clears`: it clears a range or a point
+-- `g s` is the set afterwards; `begins`: the call sets over at least one position; `clears`: it clears
 pub record Changes (k : ℕ) (h : RangeBitset) (st : List ℕ) (f : Positions → Reply) (g : Positions → Positions) (begins clears : Bool)
     (r : Reply) (h′ : RangeBitset) (st′ : List ℕ) : Type 0 where
   -- on any memory: refused exactly so, and then nothing is changed; numbers past those needed and the word count never are
@@ -85,5 +85,5 @@ SetEnsures h st i v r st′ =
 -- every position: the flag is kept
 abbrev pub ClearEnsures : RangeBitset → List ℕ → Assigned → List ℕ → Type 0
 ClearEnsures h st r st′ =
-    Changes (storageRefusal h (length st)) h st (λ s. Number (count s 0 (capacityOf h))) (λ s. none) false false
+    Changes (storageRefusal h (length st)) h st (λ s. Number (count s 0 (capacityOf h))) (λ s. none) false true
     (ofCounted (r .answer)) (r .head) st′

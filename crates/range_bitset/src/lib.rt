@@ -4,7 +4,8 @@
 // Positions live in data words of 64 bits. Every 64 data words form a block with two masks -- the words that hold any set
 // bit, and the words that are entirely set -- and every block is likewise summarised in one top-level pair of masks. A
 // mask bit is authoritative: a word marked empty or full reads as zero or all ones whatever its stored contents, and so
-// does a block. A range assignment therefore rewrites at most the two partial words at its ends, the masks of the two
+// does a block. With at most 4,096 data words there are at most 64 blocks, so that the top level is a single pair of words. A
+// range assignment therefore rewrites at most the two partial words at its ends, the masks of the two
 // partial blocks around them and the top masks; the words and blocks it covers wholesale keep stale contents until a point
 // update next opens them. Each block also keeps its population so a range count never reads covered words one at a time.
 //
@@ -96,7 +97,7 @@ pub enum State {
     Full,
 }
 
-// A bitset over `0..capacity` positions: its head. Nothing of the storage is read before `allocated`.
+// A bitset over `0..capacity` positions: its head. The storage holds anything before `allocated`; specs/Layout has its order.
 pub struct RangeBitset {
     pub words: u32,
     pub len: u32,
@@ -136,7 +137,9 @@ pub struct Updated {
     pub head: RangeBitset,
 }
 
-// What the audit is shown. The blocks that hold any set bit, those that are entirely set, and those that there are.
+// ---- what the audit is shown
+
+// The blocks that hold any set bit, those that are entirely set, and those that there are.
 pub struct Tops {
     pub nonzero: u64,
     pub full: u64,
@@ -269,8 +272,8 @@ impl RangeBitset {
         requires { ⌜ (words ≤ 4096) × (block < blocks words) ⌝ }
         ensures { λ r. ⌜ r ≡ wordsOf words block ⌝ }
     {
-        let rest = words - block * 64;
-        if rest >= 64 { 64 } else { rest }
+        let left = words - block * 64;
+        if left >= 64 { 64 } else { left }
     }
 
     // The mask of the words of `block`.
@@ -690,6 +693,7 @@ impl RangeBitset {
         }
     }
 
+    // The rest of the Rust's `assign`, from `first_word` on.
     fn assign_range(storage: &mut [u64], words: usize, start: usize, end: usize, value: bool) -> u32
         requires { ⌜ Room words (now storage) × (start < end) × (end ≤ 64 * words) ⌝ }
         ensures { λ r. ⌜ Assigns words start end value (now (storage .entry)) (now (storage .exit)) r ⌝ }
@@ -814,6 +818,7 @@ impl RangeBitset {
         u64::count_ones(Self::word(storage, words, word) & mask)
     }
 
+    // The rest of the Rust's `count`, from `first_word` on.
     fn count_range(storage: &[u64], words: usize, start: usize, end: usize) -> u32
         requires { ⌜ Room words (now storage) × (start < end) × (end ≤ 64 * words) ⌝ }
         ensures { λ r. ⌜ Counts words start end (now (storage .entry)) r ⌝ }
@@ -924,7 +929,7 @@ impl RangeBitset {
     }
 
     // Positions of the word of `from`, at or after it, equal to `value`. With `next_after` it is the Rust's `next_from`, in two
-    // parts so that a search that ends in its first word is in line and calls nothing.
+    // parts so that a search that ends in its first word is compiled in line.
     fn bits_from(storage: &[u64], words: usize, from: usize, value: bool) -> u64
         requires { ⌜ Room words (now storage) × (from < 64 * words) ⌝ }
         ensures { λ r. ⌜ BitsFrom words from value (now (storage .entry)) r ⌝ }
@@ -1028,9 +1033,9 @@ impl RangeBitset {
         let words = self.words;
         let len = self.len;
         let allocated = self.allocated;
-        if !allocated {
+        if Self::idle(false, len) {
             return Assigned {
-                answer: Counted::Count(len),
+                answer: Counted::Count(0),
                 head: self,
             };
         }
