@@ -5,8 +5,8 @@ use mathlib.Core.Bool.{Bool, true, false, not, _&&_, _||_, cond, or-false}
 use mathlib.Core.List.{List, [], _∷_, _++_}
 use Prim.Native.Nat.{ℕ, _+_, _*_, _-_, _/_, _%_, _≤_, _<_, min}
 use native.Mathlib.Omega.{arith}
-use borrow.Author.Tests.{eq-eqb, ne-eqb, eqb-true, eqb-false}
-use lib.Dec.{eqb, ltb}
+use borrow.Author.Tests.{le-leb, eq-eqb, ne-eqb, eqb-true, eqb-false}
+use lib.Dec.{eqb, leb, ltb}
 use lib.ListN.{length, getD, take, length-append}
 use lib.Seq.{length-take-le, getD-take, take-take, take-at}
 use Rattle.positions.specs.Positions.{Positions, count, one}
@@ -27,6 +27,7 @@ use Rattle.ledger.specs.Inner.{lastOf, readRuns, changedByRuns, Within, 
 use Rattle.ledger.specs.declared.Ledger.{Ledger}
 use Rattle.ledger.specs.declared.Last.{Last}
 use Rattle.ledger.specs.declared.Last.the-variants as last
+use Rattle.range_bitset.proofs.Heads.{accepted-refused}
 use Rattle.ledger.proofs.Machines.{standing-entry, kept-fresh, kept-step, stayed, step-none, step-back, none-standing, set-after-back, journal-length}
 use Rattle.ledger.proofs.Journals.{length-entry, entry-last, packed-runs, packed-value, read-entry}
 use Rattle.ledger.proofs.Reassigning.{read-take, changed-within, any-lengths, back-count}
@@ -40,6 +41,8 @@ refused-call c x k e z f =
     record {
       refuses = λ w. ap Refusal e;
       only-6 = λ w. absurd (z (e ∙ w));
+      exactly-6 = λ w. absurd (z (e ∙ w));
+      empty-6 = λ w. absurd (z (e ∙ w));
       unchanged = λ w. refl;
       storage-kept = refl;
       journal-kept = λ i w. refl;
@@ -52,6 +55,10 @@ refused-call c x k e z f =
     same m (Range a e v) = refl
     same m Back = refl
     same m Wipe = refl
+
+-- a call that needs no number is not refused for want of any
+needs-none : (n : ℕ) → _≡_ {A = ℕ} 0 (cond (leb 0 n) 0 6)
+needs-none n = sym (ap (λ (b : Bool). cond b 0 6) (le-leb 0 n (omega arith)))
 
 -- ---- `wipe`
 
@@ -75,6 +82,8 @@ module _ (h : Ledger) (st j : List ℕ) where
         record {
           refuses = λ w. absurd (w z);
           only-6 = λ w. inl (e .accepts ok);
+          exactly-6 = λ w s q. accepted-refused (ofCounted (r .answer)) (e .accepts ok) ∙ needs-none (h .journal - h .used);
+          empty-6 = λ w o. e .accepts ok;
           unchanged = λ w. absurd (w (e .accepts ok));
           storage-kept = e .kept;
           journal-kept = λ i w. refl;
@@ -306,6 +315,8 @@ module _ (h : Ledger) (st j : List ℕ) where
         record {
           refuses = λ w. absurd (w accepted);
           only-6 = λ w. inl tt;
+          exactly-6 = λ w s q. needs-none (h .journal - h .used);
+          empty-6 = λ w o. tt;
           unchanged = λ w. absurd (w tt);
           storage-kept = a .reassigns .kept;
           journal-kept = λ i w. refl;

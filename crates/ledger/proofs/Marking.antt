@@ -94,14 +94,15 @@ counting-most h st a e v most n from l m k = record { most-runs = l; counted = �
 
 -- a range of at most 2 · most positions
 pub fits-short : (h : RangeBitset) (st : List ℕ) (a e : ℕ) (v : Bool) (most : ℕ) → e - a ≤ 2 * most → RunsFit h st a e v most true
-fits-short h st a e v most l z s r = sym (le-leb (length (changedRuns s a e v)) most (omega (arith, changed-few s a e v)))
+fits-short h st a e v most l =
+    record { empty = λ x. refl; fits = λ z s r. sym (le-leb (length (changedRuns s a e v)) most (omega (arith, changed-few s a e v))) }
 
-pub fits-counted : (h : RangeBitset) (st : List ℕ) (a e : ℕ) (v : Bool) (most n : ℕ) → CountsRuns h st a e v (most + 1) n → RunsFit h st a e v most (leb n most)
-fits-counted h st a e v most n c z s r = by (leb n most) refl
+pub fits-counted : (h : RangeBitset) (st : List ℕ) (a e : ℕ) (v : Bool) (most n : ℕ) → a < e → CountsRuns h st a e v (most + 1) n → RunsFit h st a e v most (leb n most)
+fits-counted h st a e v most n l c = record { empty = λ x. absurd (omega arith); fits = λ z s r. by z s r (leb n most) refl }
   where
-    by : (b : Bool) → leb n most ≡ b → b ≡ leb (length (changedRuns s a e v)) most
-    by true x = sym (le-leb (length (changedRuns s a e v)) most (omega (arith, leb-true n most x, c .counted z s r)))
-    by false x = sym (lt-leb (length (changedRuns s a e v)) most (omega (arith, leb-false n most x, c .counted z s r)))
+    by : rangeRefusal h (length st) e ≡ 0 → (s : Positions) → Represents h st s → (b : Bool) → leb n most ≡ b → b ≡ leb (length (changedRuns s a e v)) most
+    by z s r true x = sym (le-leb (length (changedRuns s a e v)) most (omega (arith, leb-true n most x, c .counted z s r)))
+    by z s r false x = sym (lt-leb (length (changedRuns s a e v)) most (omega (arith, leb-false n most x, c .counted z s r)))
 
 -- ---- writing
 

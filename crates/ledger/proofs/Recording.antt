@@ -1,7 +1,7 @@
 -- Laws for marking and clearing as calls: one for each return of `assign`, with the machine's step there. Assumes nothing.
 use mathlib.Core.Path.{_≡_, refl, sym, ap, _∙_}
 use mathlib.Core.Logic.{inl, inr}
-use mathlib.Core.Bool.{Bool, true, false}
+use mathlib.Core.Bool.{Bool, true, false, true≢false, cond}
 use mathlib.Core.List.{List}
 use Prim.Native.Nat.{ℕ, _+_, _*_, _-_, _/_, _≤_, _<_}
 use native.Mathlib.Omega.{arith}
@@ -22,6 +22,7 @@ use Rattle.ledger.specs.Memory.{Memory, memory, lentRefusal, callRefusal
 use Rattle.ledger.specs.Entries.{CallEnsures, flagAfter}
 use Rattle.ledger.specs.Inner.{RunsFit, WritesCall}
 use Rattle.ledger.specs.declared.Ledger.{Ledger}
+use Rattle.range_bitset.proofs.Heads.{accepted-refused}
 use Rattle.ledger.proofs.Machines.{stayed, went, step-outside, step-full, step-range, kept-step, set-after-range, needs-added, journal-added}
 use Rattle.ledger.proofs.Refusals.{represented-good, declined-as, LentEnough, lent-accepted, accepted-lent, set-accepts, range-accepts, ledger-set, good-again}
 
@@ -63,6 +64,8 @@ module _ (h : Ledger) (st j : List ℕ) (a e : ℕ) (v : Bool) where
       (record {
         refuses = λ z. ap Refusal (sym (call-lent k l n));
         only-6 = λ z. absurd (n (sym (call-lent k l n) ∙ z));
+        exactly-6 = λ z. absurd (n (sym (call-lent k l n) ∙ z));
+        empty-6 = λ z. absurd (n (sym (call-lent k l n) ∙ z));
         unchanged = λ z. refl;
         storage-kept = refl;
         journal-kept = λ i z. refl;
@@ -78,6 +81,8 @@ module _ (h : Ledger) (st j : List ℕ) (a e : ℕ) (v : Bool) where
       (record {
         refuses = λ z. ap Refusal (sym (call-outside l n));
         only-6 = λ z. absurd (let y : _≡_ {A = ℕ} 4 0 = sym (call-outside l n) ∙ z in omega arith);
+        exactly-6 = λ z. absurd (let y : _≡_ {A = ℕ} 4 0 = sym (call-outside l n) ∙ z in omega arith);
+        empty-6 = λ z. absurd (let y : _≡_ {A = ℕ} 4 0 = sym (call-outside l n) ∙ z in omega arith);
         unchanged = λ z. refl;
         storage-kept = refl;
         journal-kept = λ i z. refl;
@@ -92,13 +97,15 @@ module _ (h : Ledger) (st j : List ℕ) (a e : ℕ) (v : Bool) where
   -- more numbers are needed than the journal has left
   full : (r : Counted) (h′ : Ledger) → r ≡ counted.Refused 6 → h′ ≡ h → lentRefusal h (length st) (length j) ≡ 0 → e ≤ capacityOf (h .set)
       → ((callRefusal (Range a e v) before ≡ 0 → ⊥) → callRefusal (Range a e v) before ≡ 6)
-      → ((s : Positions) → Represents (h .set) st s → h .journal - h .used < needOf s a e v)
+      → ((s : Positions) → Represents (h .set) st s → h .journal - h .used < needOf s a e v) → (callRefusal (Range a e v) before ≡ 0 → e ≤ a → ⊥)
       → CallEnsures (Range a e v) before (ofCounted r) (memory h′ st j)
-  full r h′ p q l n six more =
+  full r h′ p q l n six more some =
       declined-as (Range a e v) h st j 6 r h′ p q
       (record {
         refuses = λ z. ap Refusal (sym (six z));
         only-6 = λ z. inr (refl, refl);
+        exactly-6 = λ z s x. sym (ap (λ (b : Bool). cond b 0 6) (lt-leb (needOf s a e v) (h .journal - h .used) (more s x)));
+        empty-6 = λ z o. absurd (some z (leb-true e a o));
         unchanged = λ z. refl;
         storage-kept = refl;
         journal-kept = λ i z. refl;
@@ -114,7 +121,9 @@ module _ (h : Ledger) (st j : List ℕ) (a e : ℕ) (v : Bool) where
   pub none-left : (r : Counted) (h′ : Ledger) → r ≡ counted.Refused 6 → h′ ≡ h → lentRefusal h (length st) (length j) ≡ 0 → e ≤ capacityOf (h .set)
       → h .used ≡ h .journal → CallEnsures (Range a e v) before (ofCounted r) (memory h′ st j)
   unfolding needOf
-  none-left r h′ p q l n o = full r h′ p q l n (λ z. call-none-left l n o) (λ s x. omega arith)
+  none-left r h′ p q l n o =
+      full r h′ p q l n (λ z. call-none-left l n o) (λ s x. omega arith)
+      (λ z. absurd (let y : _≡_ {A = ℕ} 6 0 = sym (call-none-left l n o) ∙ z in omega arith))
 
   -- more runs than fit
   pub too-many : (most : ℕ) (fit : Bool) (r : Counted) (h′ : Ledger) → r ≡ counted.Refused 6 → h′ ≡ h → lentRefusal h (length st) (length j) ≡ 0
@@ -123,7 +132,8 @@ module _ (h : Ledger) (st j : List ℕ) (a e : ℕ) (v : Bool) where
   unfolding needOf
   too-many most fit r h′ p q l n some o c d =
       full r h′ p q l n (λ z. absurd (z (call-passes l n some)))
-      (λ s x. omega (arith, leb-false (length (changedRuns s a e v)) most (sym (c (accepted l n) s x) ∙ d)))
+      (λ s x. omega (arith, leb-false (length (changedRuns s a e v)) most (sym (c .fits (accepted l n) s x) ∙ d)))
+      (λ z o. true≢false (sym (c .empty o) ∙ d))
 
   -- ---- done: the runs are recorded, then the range is given its value
 
@@ -145,7 +155,7 @@ module _ (h : Ledger) (st j : List ℕ) (a e : ℕ) (v : Bool) where
     room = omega (arith, enough .used-most, some, writes .most-used)
 
     few : (s : Positions) → Represents (h .set) st s → length (changedRuns s a e v) ≤ most
-    few s x = leb-true (length (changedRuns s a e v)) most (sym (fits passes s x) ∙ all-fit)
+    few s x = leb-true (length (changedRuns s a e v)) most (sym (fits .fits passes s x) ∙ all-fit)
 
     need-is : (s : Positions) → Represents (h .set) st s → u′ ≡ h .used + needOf s a e v
     need-is s x = writes .in-use passes s x (few s x)
@@ -208,6 +218,10 @@ module _ (h : Ledger) (st j : List ℕ) (a e : ℕ) (v : Bool) where
         record {
           refuses = λ z. absurd (z (call-passes lent end-within some));
           only-6 = λ z. inl (changes .accepts passes);
+          exactly-6 = λ z s x.
+              accepted-refused (ofCounted (r .answer)) (changes .accepts passes)
+              ∙ sym (ap (λ (b : Bool). cond b 0 6) (le-leb (needOf s a e v) (h .journal - h .used) (omega (arith, room, need-is s x))));
+          empty-6 = λ z o. changes .accepts passes;
           unchanged = λ z. absurd (z (changes .accepts passes));
           storage-kept = changes .kept;
           journal-kept = writes .others;

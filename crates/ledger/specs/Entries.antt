@@ -3,13 +3,15 @@ use mathlib.Core.Path.{_≡_}
 use mathlib.Core.Logic.{_⊎_}
 use mathlib.Core.Bool.{Bool, true, false, not, _&&_, _||_, cond}
 use mathlib.Core.List.{List, [], _∷_}
-use Prim.Native.Nat.{ℕ, _/_, _≤_, _<_}
+use Prim.Native.Nat.{ℕ, _-_, _/_, _≤_, _<_}
 use lib.Dec.{eqb, leb, ltb}
 use lib.ListN.{length, getD, drop}
 use Rattle.range_bitset.specs.Layout.{needed}
-use Rattle.range_bitset.specs.Answers.{Reply, Number, Nothing, Refusal, Accepted, allowedCapacity}
+use Rattle.positions.specs.Positions.{Positions}
+use Rattle.range_bitset.specs.Represents.{Represents}
+use Rattle.range_bitset.specs.Answers.{Reply, Number, Nothing, Refusal, refused, Accepted, allowedCapacity}
 use Rattle.saved_list.specs.Format.{savedWords, savedCount, savedCapacity, savedPositions, headed, whole, firstBadRun}
-use Rattle.ledger.specs.Machine.{Machine, Standing, openedWith, Call, Range, Back, Wipe, step}
+use Rattle.ledger.specs.Machine.{Machine, Standing, openedWith, Call, Range, Back, Wipe, needOf, step}
 use Rattle.ledger.specs.Memory.{Memory, memory, lentEnough, callRefusal, Holds}
 use Rattle.ledger.specs.declared.Ledger.{Ledger}
 use Rattle.ledger.specs.declared.Opened.{Opened}
@@ -22,6 +24,18 @@ abbrev pub ranges : Call → Bool
 ranges (Range a e v) = true
 ranges Back = false
 ranges Wipe = false
+
+-- how many journal numbers a call needs over the set s: only a marking or a clearing needs any
+abbrev pub callNeed : Call → Positions → ℕ
+callNeed (Range a e v) s = needOf s a e v
+callNeed Back s = 0
+callNeed Wipe s = 0
+
+-- a marking or a clearing of a range that holds nothing: it needs 1 number over every set
+abbrev pub emptyRange : Call → Bool
+emptyRange (Range a e v) = leb e a
+emptyRange Back = false
+emptyRange Wipe = false
 
 -- the last standing call is a clearing that changed positions, so that taking it back sets some
 abbrev pub restores : List Standing → Bool
@@ -45,12 +59,16 @@ pub record CallEnsures (c : Call) (before : Memory) (r : Reply) (next : Memory) 
   -- only of a marking or clearing
   pub refuses : (callRefusal c before ≡ 0 → ⊥) → r ≡ Refusal (callRefusal c before)
   pub only-6 : callRefusal c before ≡ 0 → Accepted r ⊎ ((r ≡ Refusal 6) × (ranges c ≡ true))
+  -- 6 for want of numbers alone, whatever the journal holds: for every set that the memory represents, and for an empty range
+  pub exactly-6 : callRefusal c before ≡ 0 → (s : Positions) → Represents (before .head .set) (before .storage) s
+      → refused r ≡ cond (leb (callNeed c s) (before .head .journal - before .head .used)) 0 6
+  pub empty-6 : callRefusal c before ≡ 0 → emptyRange c ≡ true → Accepted r
   -- a refused call changes nothing
   pub unchanged : (Accepted r → ⊥) → next ≡ before
   -- storage past the needed numbers, and journal numbers outside old U to new U, are as they were
   pub storage-kept : drop (needed (before .head .set .words)) (next .storage) ≡ drop (needed (before .head .set .words)) (before .storage)
   pub journal-kept : (i : ℕ) → (i < before .head .used) ⊎ (next .head .used ≤ i) → getD (next .journal) i 0 ≡ getD (before .journal) i 0
-  -- on a sound ledger: the machine's answer, so that 6 is for want of numbers alone, and the machine's next state
+  -- on a sound ledger: the machine's answer, and the machine's next state
   pub answers : (m : Machine) → Holds before m → r ≡ step m c .answer
   pub holds : (m : Machine) → Holds before m → Holds next (step m c .next)
   pub flag : (m : Machine) → Holds before m → next .head .set .allocated ≡ flagAfter (before .head .set .allocated) m c r

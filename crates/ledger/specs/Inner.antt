@@ -33,9 +33,9 @@ pub record CountsRuns (h : RangeBitset) (st : List ℕ) (a e : ℕ) (v : Bool) (
   pub counted : rangeRefusal h (length st) e ≡ 0 → (s : Positions) → Represents h st s → r ≡ min most (length (changedRuns s a e v))
 
 -- whether giving a..e the value v changes at most `most` runs
-abbrev pub RunsFit : RangeBitset → List ℕ → ℕ → ℕ → Bool → ℕ → Bool → Type 0
-RunsFit h st a e v most r =
-    rangeRefusal h (length st) e ≡ 0 → (s : Positions) → Represents h st s → r ≡ leb (length (changedRuns s a e v)) most
+pub record RunsFit (h : RangeBitset) (st : List ℕ) (a e : ℕ) (v : Bool) (most : ℕ) (r : Bool) : Type 0 where
+  pub empty : e ≤ a → r ≡ true
+  pub fits : rangeRefusal h (length st) e ≡ 0 → (s : Positions) → Represents h st s → r ≡ leb (length (changedRuns s a e v)) most
 
 -- the runs that a call changes, written into the journal from u on where they are at most `most`
 pub record WritesRuns (h : RangeBitset) (st : List ℕ) (a e : ℕ) (v : Bool) (u most runs : ℕ) (j j′ : List ℕ) : Type 0 where

@@ -24,7 +24,7 @@ count-runs-requires : tie.Need-count-runs-requires
 count-runs-requires c κs = search needs
 
 returns-3 : tie.Need-returns-3
-returns-3 c = fits-counted _ _ _ _ _ _ _ (c .count-runs .ensures)
+returns-3 c = fits-counted _ _ _ _ _ _ _ (omega arith) (c .count-runs .ensures)
 
 pub runs-fit-spec : {M : Type 1} → statement M
 runs-fit-spec =
