@@ -28,8 +28,8 @@
  * stays in the numbers that were lent. What the calls promise below of their answer is promised where head and storage
  * are a pair that these calls left behind: the head is the one that the last call gave, and the storage has not
  * been written since, nor, for a ledger, the journal's first U numbers. On any other memory an accepted call's answer, its head
- * and the numbers that it may write may be anything, and all that is said of refusals (but for 6 while U is below J) and of
- * the other numbers still holds. What klado_set_audit, klado_ledger_new and klado_ledger_open promise is promised on any memory.
+ * and the numbers that it may write may be anything, and all that is said of refusals and of the other numbers still holds
+ * (but for 6 where head and storage are not sound and U is below J: there is no set to count runs by). What klado_set_audit, klado_ledger_new and klado_ledger_open promise is promised on any memory.
  *
  * Refusals. Every answer opens with `refused`: 0, or the number of the first of these rules that is broken, in this order:
  *   1  new and open alone: the capacity is not 64 * W for a W that is a power of two from 1 to 4096, or J is above 16,384.

@@ -254,8 +254,9 @@ fn refusal(case: &Case) -> u32 {
 fn loose_call(case: Case, memory: &mut Memory) -> Ledger {
     let answer = perform(case, memory);
     let wanted = refusal(&case);
-    // what a marking or clearing needs is free here
-    let free = wanted == 0 && answer.refused == 6 && case.kind.assigns();
+    // what a marking or clearing of at least one position needs is free here: there is no set to count its runs by
+    let empty = matches!(case.kind, Mark | Clear) && case.start >= case.end;
+    let free = wanted == 0 && answer.refused == 6 && case.kind.assigns() && !empty;
     if answer.refused != wanted && !free {
         wrong(case, &format!("refused {} and not {wanted}", answer.refused));
     }
