@@ -6,11 +6,10 @@ use mathlib.Core.List.{List, [], _∷_, _++_}
 use Prim.Native.Nat.{ℕ, _+_, _≤_}
 use lib.ListN.{length}
 use lib.Seq.{sets}
-use lib.Dec.{leb}
 use Rattle.ledger.specs.Memory.{Memory, memory}
 use Rattle.command_lines.specs.declared.Answer.{Answer}
 use Rattle.command_lines.specs.Lines.{meaning}
-use Rattle.command_lines.specs.Answers.{printed, filled, usedAfter}
+use Rattle.command_lines.specs.Answers.{printed, hasRoom, filled, usedAfter}
 use Rattle.command_lines.specs.Input.{unended, linesFrom, Holds}
 use Rattle.sheetmark.specs.declared.Session.{Session}
 use Rattle.sheetmark.specs.Performing.{Performs}
@@ -33,19 +32,15 @@ pub record AnswersLine (bytes : List ℕ) (s t : State) : Type 0 where
   pub output : t .out ≡ filled (s .out) (s .used) answer
   pub filled-to : t .used ≡ usedAfter (s .out) (s .used) answer
 
--- there is room for any answer
-abbrev pub hasRoom : State → Bool
-hasRoom s = leb (s .used + 12) (length (s .out))
-
--- where there is none the output is written out, and then filled from 0 on
+-- where there is no room for any answer the output is written out, and then filled from 0 on
 abbrev pub withRoom : State → State
-withRoom s = record { live = s .live; ledger = s .ledger; out = s .out; used = cond (hasRoom s) (s .used) 0 }
+withRoom s = record { live = s .live; ledger = s .ledger; out = s .out; used = cond (hasRoom (s .out) (s .used)) (s .used) 0 }
 
 -- lines answered one after the other, with room made before each; `rs` are the answers
 pub data Serves : State → List (List ℕ) → List Answer → State → Type 0 where
   none : {s : State} → Serves s [] [] s
   line : {s t u : State} {l : List ℕ} {ls : List (List ℕ)} {rs : List Answer}
-      → hasRoom (withRoom s) ≡ true → (a : AnswersLine l (withRoom s) t) → Serves t ls rs u → Serves s (l ∷ ls) (a .answer ∷ rs) u
+      → hasRoom (s .out) (withRoom s .used) ≡ true → (a : AnswersLine l (withRoom s) t) → Serves t ls rs u → Serves s (l ∷ ls) (a .answer ∷ rs) u
 
 -- the text of a list of answers, each with its newline
 abbrev pub texts : List Answer → List ℕ
