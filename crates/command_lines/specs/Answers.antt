@@ -38,8 +38,8 @@ hasRoom out used = leb (used + 12) (length out)
 
 -- the output, filled up to `used`, once the answer is put there: `sets l i bs` is l with the bytes bs stored from index i on.
 -- Where there is no room, nothing is stored
-abbrev pub filled : List ℕ → ℕ → Answer → List ℕ
-filled out used a = cond (hasRoom out used) (sets out used (printed a)) out
+abbrev pub outAfter : List ℕ → ℕ → Answer → List ℕ
+outAfter out used a = cond (hasRoom out used) (sets out used (printed a)) out
 
 -- up to where the output is filled then
 abbrev pub usedAfter : List ℕ → ℕ → Answer → ℕ

@@ -7,7 +7,7 @@ ghost use lib.ListN.{length, drop, set};
 ghost use lib.Seq.{sets};
 ghost use Rattle.command_lines.specs.Lines.{fields, meaning, pair, with};
 ghost use Rattle.command_lines.specs.Inner.{starts, readAt, finish, keywordOf};
-ghost use Rattle.command_lines.specs.Answers.{digits, hasRoom, filled, usedAfter};
+ghost use Rattle.command_lines.specs.Answers.{digits, hasRoom, outAfter, usedAfter};
 ghost use Rattle.command_lines.specs.Input.{Gathers, keptNext};
 
 // What a line asks for: `new` with capacity and journal length, the calls with start and end, or none of these.
@@ -239,7 +239,7 @@ fn put_number_line(out: &mut [u8], at: usize, n: u32) -> usize
 // fewer than 12 bytes are free, nothing is put.
 pub fn put_answer(out: &mut [u8], used: usize, answer: Answer) -> usize
     ensures { λ r. ⌜ r ≡ usedAfter (now (out .entry)) used answer ⌝ }
-    ensures { λ r. ⌜ now (out .exit) ≡ filled (now (out .entry)) used answer ⌝ }
+    ensures { λ r. ⌜ now (out .exit) ≡ outAfter (now (out .entry)) used answer ⌝ }
 {
     if !has_room(out, used) {
         return used;
