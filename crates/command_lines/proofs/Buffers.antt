@@ -35,8 +35,8 @@ other-length w v h = go (same w v) refl where
   go false e = refl
   go true e = absurd (omega (arith, ap length (same-true w v e)))
 
-long-word : (w : List ℕ) → 5 < length w → (a b : ℕ) → with w (Both a b) ≡ Bad
-long-word w h a b = with-none w (Both a b) (no new (omega arith)) (no mark (omega arith)) (no clear (omega arith)) (no count (omega arith)) (no one (omega arith)) (no zero (omega arith)) where
+long-keyword : (w : List ℕ) → 5 < length w → (a b : ℕ) → with w (Both a b) ≡ Bad
+long-keyword w h a b = with-none w (Both a b) (no new (omega arith)) (no mark (omega arith)) (no clear (omega arith)) (no count (omega arith)) (no one (omega arith)) (no zero (omega arith)) where
   no : (v : List ℕ) → length v ≤ 5 → same w v ≡ false
   no v k = other-length w v (omega arith)
 
@@ -49,7 +49,7 @@ long-line line h = go (fields line) (fields-joined line) where
   three w a b k true true p q =
       let n = simp length-append at k in
       let l : 5 < length w = omega (arith, number-length a p, number-length b q, length-append w (32 ∷ (a ++ (32 ∷ b))), length-append a (32 ∷ b)) in
-      simp (p, q) (long-word w l (value a) (value b))
+      simp (p, q) (long-keyword w l (value a) (value b))
 
   go : (fs : List (List ℕ)) → joined fs ≡ line → command fs ≡ Bad
   go [] e = refl

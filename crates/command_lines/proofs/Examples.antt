@@ -80,7 +80,7 @@ bad-3 : meaning (109 ∷ 97 ∷ 114 ∷ 107 ∷ 32 ∷ 49 ∷ 32 ∷ 32 ∷ 50 �
 unfolding fields isNumber
 bad-3 = refl
 
--- a space before the word
+-- a space before the keyword
 bad-4 : meaning (32 ∷ 109 ∷ 97 ∷ 114 ∷ 107 ∷ 32 ∷ 49 ∷ 32 ∷ 50 ∷ []) ≡ Bad
 unfolding fields isNumber
 bad-4 = refl
@@ -90,7 +90,7 @@ bad-5 : meaning (109 ∷ 97 ∷ 114 ∷ 107 ∷ 32 ∷ 49 ∷ 32 ∷ 50 ∷ 32 �
 unfolding fields isNumber
 bad-5 = refl
 
--- a trailing space after a word alone
+-- a trailing space after a keyword alone
 bad-6 : meaning (98 ∷ 97 ∷ 99 ∷ 107 ∷ 32 ∷ []) ≡ Bad
 unfolding fields isNumber
 bad-6 = refl
@@ -130,7 +130,7 @@ bad-13 : meaning (109 ∷ 97 ∷ 114 ∷ 107 ∷ 32 ∷ 49 ∷ 0 ∷ 32 ∷ 50 �
 unfolding fields isNumber
 bad-13 = refl
 
--- an unknown word
+-- an unknown keyword
 bad-14 : meaning (109 ∷ 97 ∷ 114 ∷ 107 ∷ 115 ∷ 32 ∷ 49 ∷ 32 ∷ 50 ∷ []) ≡ Bad
 unfolding fields isNumber
 bad-14 = refl
@@ -160,7 +160,7 @@ bad-19 : meaning (109 ∷ 97 ∷ 114 ∷ 107 ∷ 32 ∷ 49 ∷ 32 ∷ 50 ∷ 32 
 unfolding fields isNumber
 bad-19 = refl
 
--- a number after a word that stands alone
+-- a number after a keyword that stands alone
 bad-20 : meaning (98 ∷ 97 ∷ 99 ∷ 107 ∷ 32 ∷ 49 ∷ []) ≡ Bad
 unfolding fields isNumber
 bad-20 = refl

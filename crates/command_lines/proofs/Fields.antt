@@ -1,4 +1,4 @@
--- Laws of a text's fields: the first field and the rest, the text of the fields joined, and a word before a space. Assumes nothing.
+-- Laws of a text's fields: the first field and the rest, the text of the fields joined, and a keyword before a space. Assumes nothing.
 use mathlib.Core.Path.{_≡_, refl, sym, ap, _∙_}
 use mathlib.Core.Bool.{Bool, true, false, not, cond, _&&_}
 use mathlib.Core.List.{List, [], _∷_, _++_}
@@ -61,19 +61,19 @@ fields-joined (b ∷ t) = go (eqb b 32) refl (fields-joined t) where
   go true e h = joined-empty t ∙ ap (λ (l : List ℕ). 32 ∷ l) h ∙ ap (λ (x : ℕ). x ∷ t) (sym (eqb-true b 32 e))
   go false e h = joined-onto b (fields t) ∙ ap (λ (l : List ℕ). b ∷ l) h
 
--- ---- a word before a space
+-- ---- a keyword before a space
 
 -- the text has no space
 abbrev pub spaceless : List ℕ → Bool
 spaceless [] = true
 spaceless (b ∷ w) = not (eqb b 32) && spaceless w
 
-pub fields-word : (w t : List ℕ) → spaceless w ≡ true → fields (w ++ (32 ∷ t)) ≡ w ∷ fields t
+pub fields-keyword : (w t : List ℕ) → spaceless w ≡ true → fields (w ++ (32 ∷ t)) ≡ w ∷ fields t
 unfolding fields
-fields-word [] t e = refl
-fields-word (b ∷ w) t e = simp (
+fields-keyword [] t e = refl
+fields-keyword (b ∷ w) t e = simp (
   not-true (eqb b 32) (and-left (not (eqb b 32)) (spaceless w) e),
-  fields-word w t (and-right (not (eqb b 32)) (spaceless w) e),
+  fields-keyword w t (and-right (not (eqb b 32)) (spaceless w) e),
 )
 
 -- ---- the first field from an index on

@@ -11,7 +11,7 @@ use lib.Dec.{leb}
 use borrow.Author.Tests.{leb-true, leb-false, le-leb, lt-leb}
 use Rattle.command_lines.specs.declared.Answer.{Answer}
 use Rattle.command_lines.specs.declared.Answer.the-variants.{Refused}
-use Rattle.command_lines.specs.Answers.{digits, refused, printed, filled, usedAfter}
+use Rattle.command_lines.specs.Answers.{digits, refused, printed, hasRoom, outAfter, usedAfter}
 use Rattle.command_lines.proofs.Decimals.{digits-one, digits-more}
 
 pub room-below : (used size : ℕ) → 12 ≤ size → leb used (size - 12) ≡ leb (used + 12) size
@@ -59,12 +59,12 @@ set-newline l at n = sets-append l at (digits n) (10 ∷ [])
 module _ (out : List ℕ) (used : ℕ) (a : Answer) where
   -- what `put_answer` owes: where the output is filled up to, and the output
   abbrev pub Put : ℕ → List ℕ → Type 0
-  Put r after = (r ≡ usedAfter out used a) × (after ≡ filled out used a)
+  Put r after = (r ≡ usedAfter out used a) × (after ≡ outAfter out used a)
 
-  pub put-none : leb (used + 12) (length out) ≡ false → Put used out
+  pub put-none : hasRoom out used ≡ false → Put used out
   put-none e = (simp e, simp e)
 
-  pub put-all : (a′ : Answer) (r : ℕ) (after : List ℕ) → a ≡ a′ → leb (used + 12) (length out) ≡ true
+  pub put-all : (a′ : Answer) (r : ℕ) (after : List ℕ) → a ≡ a′ → hasRoom out used ≡ true
       → r ≡ used + length (printed a′) → after ≡ sets out used (printed a′) → Put r after
   put-all a′ r after s e p q =
       (simp e (p ∙ ap (λ (x : Answer). used + length (printed x)) (sym s)), simp e (q ∙ ap (λ (x : Answer). sets out used (printed x)) (sym s)))

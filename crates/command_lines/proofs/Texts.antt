@@ -1,4 +1,4 @@
--- Laws of comparing texts: `same` is equality, and `starts` says that a text starts with a word. Assumes nothing.
+-- Laws of comparing texts: `same` is equality, and `starts` says that a text starts with another. Assumes nothing.
 use mathlib.Core.Path.{_≡_, refl}
 use mathlib.Core.Bool.{true, false, false≢true}
 use mathlib.Core.List.{List, [], _∷_, _++_}
@@ -35,7 +35,7 @@ unfolding starts
 starts-self [] t = refl
 starts-self (x ∷ w) t = simp (eq-eqb x x refl, starts-self w t)
 
--- one byte further: what is left of word and text decides
+-- one byte further: what is left of both decides
 pub starts-step : (w t : List ℕ) (x b : ℕ) → b ≡ x → starts (x ∷ w) (b ∷ t) ≡ starts w t
 unfolding starts
 starts-step w t x b e = simp (eq-eqb b x e)

@@ -1,5 +1,5 @@
 -- What `sheetmark` prints for an answer, and where it stands in the output. Assumes nothing.
-use mathlib.Core.Bool.{cond}
+use mathlib.Core.Bool.{Bool, cond}
 use mathlib.Core.List.{List, [], _∷_, _++_}
 use Prim.Native.Nat.{ℕ, zero, suc, _+_, _/_, _%_}
 use lib.ListN.{length}
@@ -32,11 +32,15 @@ text BadLine = 98 ∷ 97 ∷ 100 ∷ 32 ∷ 108 ∷ 105 ∷ 110 ∷ 101 ∷ []
 abbrev pub printed : Answer → List ℕ
 printed a = text a ++ (10 ∷ [])
 
--- the output `out`, filled up to `used`, once the answer is put there: `sets l i bs` is l with the bytes bs stored from
--- index i on. Where fewer than 12 bytes are free, nothing is stored
-abbrev pub filled : List ℕ → ℕ → Answer → List ℕ
-filled out used a = cond (leb (used + 12) (length out)) (sets out used (printed a)) out
+-- the output `out`, filled up to `used`, has room for any answer's line: `refused 255` and a newline are the longest, 12 bytes
+abbrev pub hasRoom : List ℕ → ℕ → Bool
+hasRoom out used = leb (used + 12) (length out)
+
+-- the output, filled up to `used`, once the answer is put there: `sets l i bs` is l with the bytes bs stored from index i on.
+-- Where there is no room, nothing is stored
+abbrev pub outAfter : List ℕ → ℕ → Answer → List ℕ
+outAfter out used a = cond (hasRoom out used) (sets out used (printed a)) out
 
 -- up to where the output is filled then
 abbrev pub usedAfter : List ℕ → ℕ → Answer → ℕ
-usedAfter out used a = cond (leb (used + 12) (length out)) (used + length (printed a)) used
+usedAfter out used a = cond (hasRoom out used) (used + length (printed a)) used

@@ -7,11 +7,11 @@ use lib.ListN.{length}
 use lib.Dec.{ltb, eqb}
 use Rattle.command_lines.specs.declared.Field.{Field}
 use Rattle.command_lines.specs.declared.Field.the-variants.{Number, Other}
-use Rattle.command_lines.specs.declared.Word.{Word}
-use Rattle.command_lines.specs.declared.Word.the-variants.{New, Mark, Clear, Count, One, Zero}
+use Rattle.command_lines.specs.declared.Keyword.{Keyword}
+use Rattle.command_lines.specs.declared.Keyword.the-variants.{New, Mark, Clear, Count, One, Zero}
 use Rattle.command_lines.specs.Lines.{isNumber, value, new, mark, clear, count, one, zero}
 
--- the text starts with the word
+-- the second text starts with the first
 unfoldable pub starts : List ℕ → List ℕ → Bool
 starts [] t = true
 starts (w ∷ ws) [] = false
@@ -30,11 +30,11 @@ readAt from t = cond (isNumber (firstField t)) (Number (value (firstField t)) (f
 unfoldable pub finish : ℕ → ℕ → ℕ → Field
 finish from at v = cond (eqb at from) Other (cond (ltb v (2 ^ 32)) (Number v at) Other)
 
--- a word's bytes
-abbrev pub wordOf : Word → List ℕ
-wordOf New = new
-wordOf Mark = mark
-wordOf Clear = clear
-wordOf Count = count
-wordOf One = one
-wordOf Zero = zero
+-- a keyword's bytes
+abbrev pub keywordOf : Keyword → List ℕ
+keywordOf New = new
+keywordOf Mark = mark
+keywordOf Clear = clear
+keywordOf Count = count
+keywordOf One = one
+keywordOf Zero = zero

@@ -1,5 +1,5 @@
 -- What a line of `sheetmark` means. A line is the list of its bytes without its newline; it is cut at each single space
--- into fields, and the fields are a word alone, or a word and two numbers. Every other line is bad. Assumes nothing.
+-- into fields, and the fields are a keyword alone, or a keyword and two numbers. Every other line is bad. Assumes nothing.
 use mathlib.Core.Bool.{Bool, true, false, cond, _&&_}
 use mathlib.Core.List.{List, [], _∷_}
 use Prim.Native.Nat.{ℕ, _+_, _*_, _-_, _^_}
@@ -51,7 +51,7 @@ pair (a ∷ []) = Not
 pair (a ∷ b ∷ []) = cond (isNumber a && isNumber b) (Both (value a) (value b)) Not
 pair (a ∷ b ∷ f ∷ fs) = Not
 
--- ---- words
+-- ---- keywords
 
 -- two texts are the same
 abbrev pub same : List ℕ → List ℕ → Bool
@@ -60,7 +60,7 @@ same [] (y ∷ ys) = false
 same (x ∷ xs) [] = false
 same (x ∷ xs) (y ∷ ys) = eqb x y && same xs ys
 
--- the bytes of each word
+-- the bytes of each keyword
 abbrev pub new : List ℕ
 new = 110 ∷ 101 ∷ 119 ∷ []
 
@@ -85,11 +85,11 @@ back = 98 ∷ 97 ∷ 99 ∷ 107 ∷ []
 abbrev pub wipe : List ℕ
 wipe = 119 ∷ 105 ∷ 112 ∷ 101 ∷ []
 
--- a word alone
+-- a keyword alone
 abbrev pub alone : List ℕ → Command
 alone w = cond (same w back) Back (cond (same w wipe) Wipe Bad)
 
--- a word with its two numbers
+-- a keyword with its two numbers
 abbrev pub with : List ℕ → Pair → Command
 with w Not = Bad
 with w (Both a b) =

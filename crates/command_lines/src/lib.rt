@@ -5,10 +5,9 @@ ghost use mathlib.Core.List.{[], _∷_, _++_};
 ghost use Prim.Native.Nat.{_+_, _≤_, _<_};
 ghost use lib.ListN.{length, drop, set};
 ghost use lib.Seq.{sets};
-ghost use lib.Dec.{leb};
 ghost use Rattle.command_lines.specs.Lines.{fields, meaning, pair, with};
-ghost use Rattle.command_lines.specs.Inner.{starts, readAt, finish, wordOf};
-ghost use Rattle.command_lines.specs.Answers.{digits, filled, usedAfter};
+ghost use Rattle.command_lines.specs.Inner.{starts, readAt, finish, keywordOf};
+ghost use Rattle.command_lines.specs.Answers.{digits, hasRoom, outAfter, usedAfter};
 ghost use Rattle.command_lines.specs.Input.{Gathers, keptNext};
 
 // What a line asks for: `new` with capacity and journal length, the calls with start and end, or none of these.
@@ -44,8 +43,8 @@ enum Field {
     Other,
 }
 
-// The words that two numbers follow.
-enum Word {
+// The keywords that two numbers follow.
+enum Keyword {
     New,
     Mark,
     Clear,
@@ -56,16 +55,16 @@ enum Word {
 
 // ---- what a line means
 
-// Whether the line starts with the bytes of `word`.
-fn starts_with(line: &[u8], word: &[u8]) -> bool
-    ensures { λ r. ⌜ r ≡ starts (now (word .entry)) (now (line .entry)) ⌝ }
+// Whether the line starts with the bytes of `start`.
+fn starts_with(line: &[u8], start: &[u8]) -> bool
+    ensures { λ r. ⌜ r ≡ starts (now (start .entry)) (now (line .entry)) ⌝ }
 {
     let mut i = 0;
-    while i < word.len() {
+    while i < start.len() {
         if i >= line.len() {
             return false;
         }
-        if line[i] != word[i] {
+        if line[i] != start[i] {
             return false;
         }
         i += 1;
@@ -133,20 +132,20 @@ fn numbers(line: &[u8], from: usize) -> Pair
     Pair::Both(a, b)
 }
 
-// The command of a word and what follows it.
-fn ranged(word: Word, numbers: Pair) -> Command
-    ensures { λ r. ⌜ r ≡ with (wordOf word) numbers ⌝ }
+// The command of a keyword with the two numbers that follow it.
+fn with_numbers(keyword: Keyword, numbers: Pair) -> Command
+    ensures { λ r. ⌜ r ≡ with (keywordOf keyword) numbers ⌝ }
 {
     let Pair::Both(a, b) = numbers else {
         return Command::Bad;
     };
-    match word {
-        Word::New => Command::New(a, b),
-        Word::Mark => Command::Mark(a, b),
-        Word::Clear => Command::Clear(a, b),
-        Word::Count => Command::Count(a, b),
-        Word::One => Command::One(a, b),
-        Word::Zero => Command::Zero(a, b),
+    match keyword {
+        Keyword::New => Command::New(a, b),
+        Keyword::Mark => Command::Mark(a, b),
+        Keyword::Clear => Command::Clear(a, b),
+        Keyword::Count => Command::Count(a, b),
+        Keyword::One => Command::One(a, b),
+        Keyword::Zero => Command::Zero(a, b),
     }
 }
 
@@ -155,22 +154,22 @@ pub fn parse(line: &[u8]) -> Command
     ensures { λ r. ⌜ r ≡ meaning (now (line .entry)) ⌝ }
 {
     if starts_with(line, b"mark ") {
-        return ranged(Word::Mark, numbers(line, 5));
+        return with_numbers(Keyword::Mark, numbers(line, 5));
     }
     if starts_with(line, b"clear ") {
-        return ranged(Word::Clear, numbers(line, 6));
+        return with_numbers(Keyword::Clear, numbers(line, 6));
     }
     if starts_with(line, b"count ") {
-        return ranged(Word::Count, numbers(line, 6));
+        return with_numbers(Keyword::Count, numbers(line, 6));
     }
     if starts_with(line, b"one ") {
-        return ranged(Word::One, numbers(line, 4));
+        return with_numbers(Keyword::One, numbers(line, 4));
     }
     if starts_with(line, b"zero ") {
-        return ranged(Word::Zero, numbers(line, 5));
+        return with_numbers(Keyword::Zero, numbers(line, 5));
     }
     if starts_with(line, b"new ") {
-        return ranged(Word::New, numbers(line, 4));
+        return with_numbers(Keyword::New, numbers(line, 4));
     }
     if line.len() != 4 {
         return Command::Bad;
@@ -188,7 +187,7 @@ pub fn parse(line: &[u8]) -> Command
 
 // Whether the output, filled up to `used`, has room for any answer's line: 12 bytes, as `refused 255` and a newline need.
 pub fn has_room(out: &[u8], used: usize) -> bool
-    ensures { λ r. ⌜ r ≡ leb (used + 12) (length (now (out .entry))) ⌝ }
+    ensures { λ r. ⌜ r ≡ hasRoom (now (out .entry)) used ⌝ }
 {
     if out.len() < 12 {
         return false;
@@ -196,15 +195,15 @@ pub fn has_room(out: &[u8], used: usize) -> bool
     used <= out.len() - 12
 }
 
-// Puts the bytes of `word` into the output at `at`, and answers where they end.
-fn put(out: &mut [u8], at: usize, word: &[u8]) -> usize
-    requires { ⌜ at + length (now word) ≤ length (now out) ⌝ }
-    ensures { λ r. ⌜ r ≡ at + length (now (word .entry)) ⌝ }
-    ensures { λ r. ⌜ now (out .exit) ≡ sets (now (out .entry)) at (now (word .entry)) ⌝ }
+// Puts the bytes of `text` into the output at `at`, and answers where they end.
+fn put(out: &mut [u8], at: usize, text: &[u8]) -> usize
+    requires { ⌜ at + length (now text) ≤ length (now out) ⌝ }
+    ensures { λ r. ⌜ r ≡ at + length (now (text .entry)) ⌝ }
+    ensures { λ r. ⌜ now (out .exit) ≡ sets (now (out .entry)) at (now (text .entry)) ⌝ }
 {
     let mut i = 0;
-    while i < word.len() {
-        out[at + i] = word[i];
+    while i < text.len() {
+        out[at + i] = text[i];
         i += 1;
     }
     at + i
@@ -240,7 +239,7 @@ fn put_number_line(out: &mut [u8], at: usize, n: u32) -> usize
 // fewer than 12 bytes are free, nothing is put.
 pub fn put_answer(out: &mut [u8], used: usize, answer: Answer) -> usize
     ensures { λ r. ⌜ r ≡ usedAfter (now (out .entry)) used answer ⌝ }
-    ensures { λ r. ⌜ now (out .exit) ≡ filled (now (out .entry)) used answer ⌝ }
+    ensures { λ r. ⌜ now (out .exit) ≡ outAfter (now (out .entry)) used answer ⌝ }
 {
     if !has_room(out, used) {
         return used;

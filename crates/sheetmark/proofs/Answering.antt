@@ -7,39 +7,38 @@ use Prim.Native.Nat.{ℕ, _+_, _≤_, _<_, min}
 use native.Mathlib.Omega.{arith}
 use lib.ListN.{length, take, drop, length-append, length-drop, drop-of-length-le}
 use lib.Seq.{sets, drop-drop, length-sets}
-use lib.Dec.{leb}
 use borrow.Author.Tests.{le-leb}
 use Rattle.command_lines.specs.declared.Gathered.{Gathered}
 use Rattle.command_lines.specs.declared.Answer.{Answer}
 use Rattle.command_lines.specs.Lines.{meaning}
-use Rattle.command_lines.specs.Answers.{printed, filled, usedAfter}
+use Rattle.command_lines.specs.Answers.{printed, hasRoom, outAfter, usedAfter}
 use Rattle.command_lines.specs.Input.{linesFrom, upTo, ends, Gathers, Holds}
 use Rattle.command_lines.proofs.Filling.{sets-append}
 use Rattle.command_lines.proofs.Buffers.{holds-none, gathers-holds, held-means, lines-ended, lines-open, up-to-open}
 use Rattle.sheetmark.specs.declared.Session.{Session}
-use Rattle.sheetmark.specs.Answering.{State, state, AnswersLine, hasRoom, withRoom, Serves, none, line, texts, Appends, Parts, Ends}
+use Rattle.sheetmark.specs.Answering.{State, state, AnswersLine, withRoom, Serves, none, line, texts, Appends, Parts, Ends}
 
 -- ---- room in the output
 
 module _ (s n : Session) (out st j bytes : List ℕ) (t : State) where
-  pub room-there : leb (s .used + 12) (length out) ≡ true → n ≡ s → AnswersLine bytes (state n out st j) t
+  pub room-there : hasRoom out (s .filled) ≡ true → n ≡ s → AnswersLine bytes (state n out st j) t
       → AnswersLine bytes (withRoom (state s out st j)) t
   room-there e p a = rw e (rw p at a)
 
-  pub room-made : leb (s .used + 12) (length out) ≡ false → n .used ≡ 0 → n .head ≡ s .head → n .live ≡ s .live
+  pub room-made : hasRoom out (s .filled) ≡ false → n .filled ≡ 0 → n .head ≡ s .head → n .live ≡ s .live
       → AnswersLine bytes (state n out st j) t → AnswersLine bytes (withRoom (state s out st j)) t
   room-made e u h v a = rw e (rw (u, h, v) at a)
 
 -- an output of 12 bytes has room once it is written out
-has-room : (s : State) → 12 ≤ length (s .out) → hasRoom (withRoom s) ≡ true
-has-room s h = go (hasRoom s) refl where
-  go : (b : Bool) → hasRoom s ≡ b → leb (cond b (s .used) 0 + 12) (length (s .out)) ≡ true
+has-room : (s : State) → 12 ≤ length (s .out) → hasRoom (s .out) (withRoom s .filled) ≡ true
+has-room s h = go (hasRoom (s .out) (s .filled)) refl where
+  go : (b : Bool) → hasRoom (s .out) (s .filled) ≡ b → hasRoom (s .out) (cond b (s .filled) 0) ≡ true
   go true e = e
   go false e = le-leb 12 (length (s .out)) h
 
 -- ---- one line more
 
-serves-more : {s t u : State} {l : List ℕ} {ls : List (List ℕ)} {rs : List Answer} → Serves s ls rs t → hasRoom (withRoom t) ≡ true
+serves-more : {s t u : State} {l : List ℕ} {ls : List (List ℕ)} {rs : List Answer} → Serves s ls rs t → hasRoom (t .out) (withRoom t .filled) ≡ true
     → (a : AnswersLine l (withRoom t) u) → Serves s (ls ++ (l ∷ [])) (rs ++ (a .answer ∷ [])) u
 serves-more none h a = line h a none
 serves-more (line k b r) h a = line k b (serves-more r h a)
@@ -51,27 +50,27 @@ answers-same l k s t e a =
 
 -- ---- answers one behind the other
 
--- where there is room, the answer is put at `used`
-module _ (out : List ℕ) (used : ℕ) (a : Answer) (e : leb (used + 12) (length out) ≡ true) where
-  filled-there : filled out (cond (leb (used + 12) (length out)) used 0) a ≡ sets out used (printed a)
-  filled-there = simp e
+-- where there is room, the answer is put at `filled`
+module _ (out : List ℕ) (used : ℕ) (a : Answer) (e : hasRoom out used ≡ true) where
+  out-there : outAfter out (cond (hasRoom out used) used 0) a ≡ sets out used (printed a)
+  out-there = simp e
 
-  used-there : usedAfter out (cond (leb (used + 12) (length out)) used 0) a ≡ used + length (printed a)
+  used-there : usedAfter out (cond (hasRoom out used) used 0) a ≡ used + length (printed a)
   used-there = simp e
 
-serves-appends : {s t : State} {ls : List (List ℕ)} {rs : List Answer} → Serves s ls rs t → s .used + length (texts rs) + 12 ≤ length (s .out)
+serves-appends : {s t : State} {ls : List (List ℕ)} {rs : List Answer} → Serves s ls rs t → s .filled + length (texts rs) + 12 ≤ length (s .out)
     → Appends rs s t
 serves-appends none h = record { output = refl; filled-to = omega arith }
 serves-appends {s = s} (line {t = m} {rs = rs} k a r) h =
     let p : List ℕ = printed (a .answer) in
     let n : length (p ++ texts rs) ≡ length p + length (texts rs) = length-append p (texts rs) in
-    let e : hasRoom s ≡ true = le-leb (s .used + 12) (length (s .out)) (omega arith) in
-    let o : m .out ≡ sets (s .out) (s .used) p = a .output ∙ filled-there (s .out) (s .used) (a .answer) e in
-    let u : m .used ≡ s .used + length p = a .filled-to ∙ used-there (s .out) (s .used) (a .answer) e in
-    let size : length (m .out) ≡ length (s .out) = ap length o ∙ length-sets (s .out) (s .used) p in
+    let e : hasRoom (s .out) (s .filled) ≡ true = le-leb (s .filled + 12) (length (s .out)) (omega arith) in
+    let o : m .out ≡ sets (s .out) (s .filled) p = a .output ∙ out-there (s .out) (s .filled) (a .answer) e in
+    let u : m .filled ≡ s .filled + length p = a .filled-to ∙ used-there (s .out) (s .filled) (a .answer) e in
+    let size : length (m .out) ≡ length (s .out) = ap length o ∙ length-sets (s .out) (s .filled) p in
     let i = serves-appends r (omega arith) in
     record {
-      output = i .output ∙ rw (o, u) (sets-append (s .out) (s .used) p (texts rs));
+      output = i .output ∙ rw (o, u) (sets-append (s .out) (s .filled) p (texts rs));
       filled-to = omega (arith, i .filled-to);
     }
 

@@ -2,6 +2,7 @@
 -- printed. Assumes nothing.
 use mathlib.Core.Path.{_≡_}
 use mathlib.Core.Bool.{Bool, true, false}
+use mathlib.Core.List.{List}
 use Prim.Native.Nat.{ℕ, _%_, _^_}
 use lib.ListN.{length}
 use Rattle.positions.specs.Positions.{Positions, count, first}
@@ -17,6 +18,7 @@ use Rattle.command_lines.specs.declared.Command.{Command}
 use Rattle.command_lines.specs.declared.Command.the-variants as command
 use Rattle.command_lines.specs.declared.Answer.{Answer}
 use Rattle.command_lines.specs.declared.Answer.the-variants as answer
+use Rattle.sheetmark.specs.declared.Performed.{Performed}
 
 -- what is printed for a reply: never `bad line`
 abbrev pub answerOf : Reply → Answer
@@ -88,3 +90,7 @@ Performs (command.Zero s e) false x a live′ y = IsBad false x a live′ y
 Performs command.Back false x a live′ y = IsBad false x a live′ y
 Performs command.Wipe false x a live′ y = IsBad false x a live′ y
 Performs command.Bad false x a live′ y = IsBad false x a live′ y
+
+-- the same of what a command leaves, together with the lent storage st and journal j
+abbrev pub Leaves : Command → Bool → Memory → Performed → List ℕ → List ℕ → Type 0
+Leaves c live x r st j = Performs c live x (r .answer) (r .live) (memory (r .head) st j)

@@ -3,15 +3,13 @@
 // largest set's storage and the longest journal. Assumes that the kit's read and write do what they say.
 ghost use mathlib.Core.Path.{_≡_};
 ghost use mathlib.Core.Bool.{true, false};
-ghost use mathlib.Core.List.{List};
-ghost use Prim.Native.Nat.{ℕ, _≤_, _<_};
+ghost use Prim.Native.Nat.{_≤_, _<_};
 ghost use lib.ListN.{length, take};
 ghost use Rattle.range_bitset.specs.Answers.{ofCounted, ofPlace};
 ghost use Rattle.ledger.specs.Memory.{memory};
-ghost use Rattle.sheetmark.specs.Performing.{Performs, Starts, answerOf, low32};
-ghost use Rattle.sheetmark.specs.Answering.{state, AnswersLine, withRoom, Parts, Ends};
-ghost use Rattle.ledger.specs.Entries.{newOf};
-ghost use Rattle.command_lines.specs.Input.{Holds};
+ghost use Rattle.sheetmark.specs.Performing.{Leaves, answerOf, low32};
+ghost use Rattle.sheetmark.specs.Answering.{stateOf, AnswersLine, withRoom, PartAnswered, EndAnswered};
+ghost use Rattle.command_lines.specs.declared.Command.the-variants.{New};
 use command_lines::Answer;
 use command_lines::Command;
 use ledger::Called;
@@ -28,6 +26,7 @@ pub struct Performed {
     pub live: bool,
 }
 
+// A count, as it is printed.
 fn of_counted(counted: Counted) -> Answer
     ensures { λ r. ⌜ r ≡ answerOf (ofCounted counted) ⌝ }
 {
@@ -37,7 +36,7 @@ fn of_counted(counted: Counted) -> Answer
     }
 }
 
-// A position is below the capacity, so that 32 bits hold it; any other number is cut to them.
+// A place, as it is printed. A position is below the capacity, so that 32 bits hold it; any other number is cut to them.
 fn of_found(found: Found) -> Answer
     ensures { λ r. ⌜ r ≡ answerOf (low32 (ofPlace found)) ⌝ }
 {
@@ -48,7 +47,8 @@ fn of_found(found: Found) -> Answer
     }
 }
 
-fn called(done: Called) -> Performed
+// What a call of the ledger leaves.
+fn of_called(done: Called) -> Performed
     ensures { λ r. ⌜ (r .answer ≡ answerOf (ofCounted (done .answer))) × (r .head ≡ done .head) × (r .live ≡ true) ⌝ }
 {
     let answer = done.answer;
@@ -69,7 +69,7 @@ fn new_ledger(
     capacity: u32,
     limit: u32,
 ) -> Performed
-    ensures { λ r. ⌜ Starts (newOf capacity limit (length (now (storage .entry))) (length (now (journal .entry)))) live (memory head (now (storage .entry)) (now (journal .entry))) (r .answer) (r .live) (memory (r .head) (now (storage .entry)) (now (journal .entry))) ⌝ }
+    ensures { λ r. ⌜ Leaves (New capacity limit) live (memory head (now (storage .entry)) (now (journal .entry))) r (now (storage .entry)) (now (journal .entry)) ⌝ }
 {
     match Ledger::new(capacity as usize, limit as usize, storage, journal) {
         Opened::Head(fresh) => Performed {
@@ -97,13 +97,13 @@ fn perform_live(
     journal: &mut [u32],
     command: Command,
 ) -> Performed
-    ensures { λ r. ⌜ Performs command true (memory head (now (storage .entry)) (now (journal .entry))) (r .answer) (r .live) (memory (r .head) (now (storage .exit)) (now (journal .exit))) ⌝ }
+    ensures { λ r. ⌜ Leaves command true (memory head (now (storage .entry)) (now (journal .entry))) r (now (storage .exit)) (now (journal .exit)) ⌝ }
 {
     let set = head.set;
     match command {
         Command::New(capacity, limit) => new_ledger(head, true, storage, journal, capacity, limit),
-        Command::Mark(a, e) => called(head.mark(storage, journal, a as usize, e as usize)),
-        Command::Clear(a, e) => called(head.clear(storage, journal, a as usize, e as usize)),
+        Command::Mark(a, e) => of_called(head.mark(storage, journal, a as usize, e as usize)),
+        Command::Clear(a, e) => of_called(head.clear(storage, journal, a as usize, e as usize)),
         Command::Count(a, e) => Performed {
             answer: of_counted(set.count(storage, a as usize, e as usize)),
             head,
@@ -119,8 +119,8 @@ fn perform_live(
             head,
             live: true,
         },
-        Command::Back => called(head.take_back(storage, journal)),
-        Command::Wipe => called(head.wipe(storage)),
+        Command::Back => of_called(head.take_back(storage, journal)),
+        Command::Wipe => of_called(head.wipe(storage)),
         Command::Bad => Performed {
             answer: Answer::BadLine,
             head,
@@ -131,7 +131,7 @@ fn perform_live(
 
 // A command before an accepted `new`.
 fn perform_before_new(head: Ledger, storage: &[u64], journal: &[u32], command: Command) -> Performed
-    ensures { λ r. ⌜ Performs command false (memory head (now (storage .entry)) (now (journal .entry))) (r .answer) (r .live) (memory (r .head) (now (storage .entry)) (now (journal .entry))) ⌝ }
+    ensures { λ r. ⌜ Leaves command false (memory head (now (storage .entry)) (now (journal .entry))) r (now (storage .entry)) (now (journal .entry)) ⌝ }
 {
     if let Command::New(capacity, limit) = command {
         return new_ledger(head, false, storage, journal, capacity, limit);
@@ -143,6 +143,7 @@ fn perform_before_new(head: Ledger, storage: &[u64], journal: &[u32], command: C
     }
 }
 
+// A command to the present ledger, or before there is one.
 fn perform(
     head: Ledger,
     live: bool,
@@ -150,7 +151,7 @@ fn perform(
     journal: &mut [u32],
     command: Command,
 ) -> Performed
-    ensures { λ r. ⌜ Performs command live (memory head (now (storage .entry)) (now (journal .entry))) (r .answer) (r .live) (memory (r .head) (now (storage .exit)) (now (journal .exit))) ⌝ }
+    ensures { λ r. ⌜ Leaves command live (memory head (now (storage .entry)) (now (journal .entry))) r (now (storage .exit)) (now (journal .exit)) ⌝ }
 {
     if live {
         perform_live(head, storage, journal, command)
@@ -160,16 +161,16 @@ fn perform(
 }
 
 // Writes the filled part of the output out.
-fn flush(out: &[u8], used: usize) {
-    if used <= out.len() {
-        io::write_all(1, &out[..used]);
+fn flush(out: &[u8], filled: usize) {
+    if filled <= out.len() {
+        io::write_all(1, &out[..filled]);
     }
 }
 
 // What goes from line to line: how far the line buffer and the output are filled, and the ledger.
 pub struct Session {
     pub kept: usize,
-    pub used: usize,
+    pub filled: usize,
     pub head: Ledger,
     pub live: bool,
 }
@@ -182,7 +183,7 @@ fn answer_line(
     storage: &mut [u64],
     journal: &mut [u32],
 ) -> Session
-    ensures { λ r. ⌜ AnswersLine (now (line .entry)) (state session (now (out .entry)) (now (storage .entry)) (now (journal .entry))) (state r (now (out .exit)) (now (storage .exit)) (now (journal .exit))) ⌝ }
+    ensures { λ r. ⌜ AnswersLine (now (line .entry)) (stateOf session (out .entry) (storage .entry) (journal .entry)) (stateOf r (out .exit) (storage .exit) (journal .exit)) ⌝ }
     ensures { λ r. ⌜ r .kept ≡ 0 ⌝ }
 {
     let command = command_lines::parse(line);
@@ -192,14 +193,14 @@ fn answer_line(
     let next = done.head;
     Session {
         kept: 0,
-        used: command_lines::put_answer(out, session.used, answer),
+        filled: command_lines::put_answer(out, session.filled, answer),
         head: next,
         live: done.live,
     }
 }
 
 // Answers the line that the buffer holds. Where the output has no room for an answer, it is written out before.
-fn one_line(
+fn answer_kept_line(
     session: Session,
     line: &[u8],
     out: &mut [u8],
@@ -207,21 +208,21 @@ fn one_line(
     journal: &mut [u32],
 ) -> Session
     requires { ⌜ session .kept ≤ length (now line) ⌝ }
-    ensures { λ r. ⌜ AnswersLine (take (session .kept) (now (line .entry))) (withRoom (state session (now (out .entry)) (now (storage .entry)) (now (journal .entry)))) (state r (now (out .exit)) (now (storage .exit)) (now (journal .exit))) ⌝ }
+    ensures { λ r. ⌜ AnswersLine (take (session .kept) (now (line .entry))) (withRoom (stateOf session (out .entry) (storage .entry) (journal .entry))) (stateOf r (out .exit) (storage .exit) (journal .exit)) ⌝ }
     ensures { λ r. ⌜ r .kept ≡ 0 ⌝ }
 {
     let kept = session.kept;
-    let used = session.used;
+    let filled = session.filled;
     let mut next = session;
-    if !command_lines::has_room(out, used) {
-        flush(out, used);
-        next.used = 0;
+    if !command_lines::has_room(out, filled) {
+        flush(out, filled);
+        next.filled = 0;
     }
     answer_line(next, &line[..kept], out, storage, journal)
 }
 
 // Answers the lines that end in a part of the input.
-fn part(
+fn answer_part(
     session: Session,
     text: &[u8],
     line: &mut [u8],
@@ -232,24 +233,24 @@ fn part(
     requires { ⌜ session .kept ≤ length (now line) ⌝ }
     requires { ⌜ 27 < length (now line) ⌝ }
     requires { ⌜ 12 ≤ length (now out) ⌝ }
-    ensures { λ r. ⌜ ((l : List ℕ) → Holds (now (line .entry)) (session .kept) l → Parts (now (text .entry)) l (state session (now (out .entry)) (now (storage .entry)) (now (journal .entry))) (state r (now (out .exit)) (now (storage .exit)) (now (journal .exit))) (r .kept) (now (line .exit))) ⌝ }
+    ensures { λ r. ⌜ PartAnswered (now (text .entry)) (now (line .entry)) (session .kept) (stateOf session (out .entry) (storage .entry) (journal .entry)) (stateOf r (out .exit) (storage .exit) (journal .exit)) (r .kept) (now (line .exit)) ⌝ }
     ensures { λ r. ⌜ r .kept ≤ length (now (line .exit)) ⌝ }
 {
     let mut at = 0;
-    let mut now = session;
+    let mut current = session;
     while at < text.len() {
-        let found = command_lines::gather(text, at, line, now.kept);
+        let found = command_lines::gather(text, at, line, current.kept);
         at = found.at;
-        now.kept = found.kept;
+        current.kept = found.kept;
         if found.ended {
-            now = one_line(now, line, out, storage, journal);
+            current = answer_kept_line(current, line, out, storage, journal);
         }
     }
-    now
+    current
 }
 
 // At the input's end: what no newline ended is a line, unless there is nothing. It gets the newline that it lacks.
-fn last_line(
+fn answer_last_line(
     session: Session,
     line: &mut [u8],
     out: &mut [u8],
@@ -259,12 +260,12 @@ fn last_line(
     requires { ⌜ session .kept ≤ length (now line) ⌝ }
     requires { ⌜ 27 < length (now line) ⌝ }
     requires { ⌜ 12 ≤ length (now out) ⌝ }
-    ensures { λ r. ⌜ ((l : List ℕ) → Holds (now (line .entry)) (session .kept) l → Ends l (state session (now (out .entry)) (now (storage .entry)) (now (journal .entry))) (state r (now (out .exit)) (now (storage .exit)) (now (journal .exit)))) ⌝ }
+    ensures { λ r. ⌜ EndAnswered (now (line .entry)) (session .kept) (stateOf session (out .entry) (storage .entry) (journal .entry)) (stateOf r (out .exit) (storage .exit) (journal .exit)) ⌝ }
 {
     if session.kept == 0 {
         return session;
     }
-    part(session, b"\n", line, out, storage, journal)
+    answer_part(session, b"\n", line, out, storage, journal)
 }
 
 // Reads and answers until the input ends. What is answered is written out before each read, so that it appears at once.
@@ -280,7 +281,7 @@ fn serve(
 {
     let mut session = Session {
         kept: 0,
-        used: 0,
+        filled: 0,
         head: Ledger {
             set: RangeBitset {
                 words: 0,
@@ -300,12 +301,12 @@ fn serve(
         if n == 0 {
             break;
         }
-        session = part(session, &input[..n], line, out, storage, journal);
-        flush(out, session.used);
-        session.used = 0;
+        session = answer_part(session, &input[..n], line, out, storage, journal);
+        flush(out, session.filled);
+        session.filled = 0;
     }
-    session = last_line(session, line, out, storage, journal);
-    flush(out, session.used);
+    session = answer_last_line(session, line, out, storage, journal);
+    flush(out, session.filled);
 }
 
 fn main() {

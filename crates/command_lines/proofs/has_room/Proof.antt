@@ -4,7 +4,6 @@ use Prim.Native.Nat.{_+_}
 use borrow.Author.Tests.{lt-leb}
 use native.Mathlib.Omega.{arith}
 use lib.ListN.{length}
-use borrow.Author.Needs.{needs}
 use Rattle.command_lines.proofs.Filling.{room-below}
 use borrow.Author.Needs.{needs}
 use Rattle.command_lines.proofs.has_room.Statement.{statement}

@@ -1,5 +1,5 @@
--- `command_lines::put` meets its contract. The invariant: storing what is left of the word gives the word stored whole. The
--- measure: what is left of the word. Assumes nothing.
+-- `command_lines::put` meets its contract. The invariant: storing what is left of the text gives the text stored whole. The
+-- measure: what is left of the text. Assumes nothing.
 use mathlib.Core.Path.{_≡_, refl, sym, _∙_}
 use Prim.Native.Nat.{_+_, _≤_, _-_}
 use native.Mathlib.Nat.{add-zero}
@@ -11,10 +11,10 @@ use Rattle.command_lines.proofs.put.Statement.{statement}
 use Rattle.command_lines.proofs.put.Tie as tie
 
 abbrev Inv-loop : tie.InvT-loop
-Inv-loop out₀ at word i₀ out i = (i ≤ length word) × (length out ≡ length out₀) × (sets out (at + i) (drop i word) ≡ sets out₀ at word)
+Inv-loop out₀ at text i₀ out i = (i ≤ length text) × (length out ≡ length out₀) × (sets out (at + i) (drop i text) ≡ sets out₀ at text)
 
 abbrev μ-loop : tie.MeasureT-loop
-μ-loop out₀ at word i₀ out i = length word - i
+μ-loop out₀ at text i₀ out i = length text - i
 
 loop-holds : tie.Need-loop-holds Inv-loop μ-loop
 loop-holds c = (omega arith, refl, rw add-zero)

@@ -4,7 +4,7 @@ use mathlib.Core.Bool.{true}
 use Prim.Native.Nat.{_+_, _≤_}
 use native.Mathlib.Omega.{arith}
 use lib.ListN.{length}
-use lib.Dec.{leb}
+use Rattle.command_lines.specs.Answers.{hasRoom}
 use denote.Ref.{now}
 use borrow.Author.Tests.{leb-true, not-true, not-false}
 use Rattle.command_lines.proofs.Decimals.{length-ten, length-three}
@@ -20,7 +20,7 @@ same-length : tie.Need-same-length
 same-length c = search needs
 
 -- past the test there is room
-has : (c : tie.Else1) → leb (c .before .before .before .before .args .used + 12) (length (now (c .before .before .before .before .args .out))) ≡ true
+has : (c : tie.Else1) → hasRoom (now (c .before .before .before .before .args .out)) (c .before .before .before .before .args .used) ≡ true
 has c = sym (c .before .has-room .ensures) ∙ not-false _ (c .if1 .left)
 
 room : (c : tie.Else1) → c .before .before .before .before .args .used + 12 ≤ length (now (c .before .before .before .before .args .out))

@@ -1,5 +1,5 @@
--- `command_lines::starts_with` meets its contract. The invariant: what is left of word and line decides. The measure: what
--- is left of the word. Assumes nothing.
+-- `command_lines::starts_with` meets its contract. The invariant: what is left of start and line decides. The measure: what
+-- is left of the start. Assumes nothing.
 use mathlib.Core.Path.{_≡_, refl, sym, _∙_}
 use Prim.Native.Nat.{_-_}
 use native.Mathlib.Omega.{arith}
@@ -10,10 +10,10 @@ use Rattle.command_lines.proofs.starts_with.Statement.{statement}
 use Rattle.command_lines.proofs.starts_with.Tie as tie
 
 abbrev Inv-loop : tie.InvT-loop
-Inv-loop line word i₀ i = starts (drop i word) (drop i line) ≡ starts word line
+Inv-loop line start i₀ i = starts (drop i start) (drop i line) ≡ starts start line
 
 abbrev μ-loop : tie.MeasureT-loop
-μ-loop line word i₀ i = length word - i
+μ-loop line start i₀ i = length start - i
 
 loop-holds : tie.Need-loop-holds Inv-loop μ-loop
 loop-holds c = refl

@@ -23,8 +23,8 @@ cast-mark-2 c = search needs
 mark-requires : tie.Need-mark-requires
 mark-requires c κs = search needs
 
-called-requires : tie.Need-called-requires
-called-requires c κs = search needs
+of-called-requires : tie.Need-of-called-requires
+of-called-requires c κs = search needs
 
 enum-known-command-3 : tie.Need-enum-known-command-3
 enum-known-command-3 c = search needs
@@ -38,8 +38,8 @@ cast-clear-2 c = search needs
 clear-requires : tie.Need-clear-requires
 clear-requires c κs = search needs
 
-called-requires-2 : tie.Need-called-requires-2
-called-requires-2 c κs = search needs
+of-called-requires-2 : tie.Need-of-called-requires-2
+of-called-requires-2 c κs = search needs
 
 enum-known-command-4 : tie.Need-enum-known-command-4
 enum-known-command-4 c = search needs
@@ -92,8 +92,8 @@ enum-told c = search needs
 take-back-requires : tie.Need-take-back-requires
 take-back-requires c κs = search needs
 
-called-requires-3 : tie.Need-called-requires-3
-called-requires-3 c κs = search needs
+of-called-requires-3 : tie.Need-of-called-requires-3
+of-called-requires-3 c κs = search needs
 
 enum-told-2 : tie.Need-enum-told-2
 enum-told-2 c = search needs
@@ -101,8 +101,8 @@ enum-told-2 c = search needs
 wipe-requires : tie.Need-wipe-requires
 wipe-requires c κs = search needs
 
-called-requires-4 : tie.Need-called-requires-4
-called-requires-4 c κs = search needs
+of-called-requires-4 : tie.Need-of-called-requires-4
+of-called-requires-4 c κs = search needs
 
 enum-told-3 : tie.Need-enum-told-3
 enum-told-3 c = search needs
@@ -124,7 +124,7 @@ same-length-4 c = search needs
 
 returns-2 : tie.Need-returns-2
 returns-2 c =
-    performed _ _ _ _ _ _ _ (c .before .before .before .before .before .before .before .before .before .command2 .given .1) (by-call _ _ (c .before .before .before .before .before .mark .result) (c .called .result) _ _ (c .called .ensures) (c .before .before .before .before .before .mark .ensures))
+    performed _ _ _ _ _ _ _ (c .before .before .before .before .before .before .before .before .before .command2 .given .1) (by-call _ _ (c .before .before .before .before .before .mark .result) (c .of-called .result) _ _ (c .of-called .ensures) (c .before .before .before .before .before .mark .ensures))
 
 same-length-5 : tie.Need-same-length-5
 same-length-5 c = search needs
@@ -134,7 +134,7 @@ same-length-6 c = search needs
 
 returns-3 : tie.Need-returns-3
 returns-3 c =
-    performed _ _ _ _ _ _ _ (c .before .before .before .before .before .before .before .before .before .command3 .given .1) (by-call _ _ (c .before .before .before .before .before .clear .result) (c .called2 .result) _ _ (c .called2 .ensures) (c .before .before .before .before .before .clear .ensures))
+    performed _ _ _ _ _ _ _ (c .before .before .before .before .before .before .before .before .before .command3 .given .1) (by-call _ _ (c .before .before .before .before .before .clear .result) (c .of-called2 .result) _ _ (c .of-called2 .ensures) (c .before .before .before .before .before .clear .ensures))
 
 same-length-7 : tie.Need-same-length-7
 same-length-7 c = search needs
@@ -165,14 +165,14 @@ same-length-11 c = search needs
 
 returns-7 : tie.Need-returns-7
 returns-7 c =
-    performed _ _ _ _ _ _ _ (c .before .before .before .before .before .before .enum-told .given .1) (by-call _ _ (c .before .before .before .take-back .result) (c .called3 .result) _ _ (c .called3 .ensures) (c .before .before .before .take-back .ensures))
+    performed _ _ _ _ _ _ _ (c .before .before .before .before .before .before .enum-told .given .1) (by-call _ _ (c .before .before .before .take-back .result) (c .of-called3 .result) _ _ (c .of-called3 .ensures) (c .before .before .before .take-back .ensures))
 
 same-length-12 : tie.Need-same-length-12
 same-length-12 c = search needs
 
 returns-8 : tie.Need-returns-8
 returns-8 c =
-    performed _ _ _ _ _ _ _ (c .before .before .before .before .before .enum-told2 .given .1) (by-call _ _ (c .before .before .before .wipe .result) (c .called4 .result) _ _ (c .called4 .ensures) (c .before .before .before .wipe .ensures _))
+    performed _ _ _ _ _ _ _ (c .before .before .before .before .before .enum-told2 .given .1) (by-call _ _ (c .before .before .before .wipe .result) (c .of-called4 .result) _ _ (c .of-called4 .ensures) (c .before .before .before .wipe .ensures _))
 
 returns-9 : tie.Need-returns-9
 returns-9 c =
@@ -188,12 +188,12 @@ perform-live-spec =
     cast-mark
     cast-mark-2
     mark-requires
-    called-requires
+    of-called-requires
     enum-known-command-3
     cast-clear
     cast-clear-2
     clear-requires
-    called-requires-2
+    of-called-requires-2
     enum-known-command-4
     cast-count
     cast-count-2
@@ -211,10 +211,10 @@ perform-live-spec =
     of-found-requires-2
     enum-told
     take-back-requires
-    called-requires-3
+    of-called-requires-3
     enum-told-2
     wipe-requires
-    called-requires-4
+    of-called-requires-4
     enum-told-3
     same-length
     same-length-2

@@ -29,14 +29,14 @@ read-requires c κs = search needs
 count-requires : tie.Need-count-requires Inv-loop μ-loop
 count-requires c κs = search needs
 
-slice-reshare-prefix-part : tie.Need-slice-reshare-prefix-part Inv-loop μ-loop
-slice-reshare-prefix-part c = search needs
+slice-reshare-prefix-answer-part : tie.Need-slice-reshare-prefix-answer-part Inv-loop μ-loop
+slice-reshare-prefix-answer-part c = search needs
 
-slice-aggregate-part : tie.Need-slice-aggregate-part Inv-loop μ-loop
-slice-aggregate-part c = search needs
+slice-aggregate-answer-part : tie.Need-slice-aggregate-answer-part Inv-loop μ-loop
+slice-aggregate-answer-part c = search needs
 
-part-requires : tie.Need-part-requires Inv-loop μ-loop
-part-requires c κs = search needs
+answer-part-requires : tie.Need-answer-part-requires Inv-loop μ-loop
+answer-part-requires c κs = search needs
 
 flush-requires : tie.Need-flush-requires Inv-loop μ-loop
 flush-requires c κs = search needs
@@ -47,8 +47,8 @@ loop-less c = search needs
 loop-again : tie.Need-loop-again Inv-loop μ-loop
 loop-again c = search needs
 
-last-line-requires : tie.Need-last-line-requires Inv-loop μ-loop
-last-line-requires c κs = search needs
+answer-last-line-requires : tie.Need-answer-last-line-requires Inv-loop μ-loop
+answer-last-line-requires c κs = search needs
 
 flush-requires-2 : tie.Need-flush-requires-2 Inv-loop μ-loop
 flush-requires-2 c κs = search needs
@@ -87,13 +87,13 @@ serve-spec =
     sub-turns
     read-requires
     count-requires
-    slice-reshare-prefix-part
-    slice-aggregate-part
-    part-requires
+    slice-reshare-prefix-answer-part
+    slice-aggregate-answer-part
+    answer-part-requires
     flush-requires
     loop-less
     loop-again
-    last-line-requires
+    answer-last-line-requires
     flush-requires-2
     same-length
     same-length-2

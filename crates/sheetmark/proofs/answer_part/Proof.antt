@@ -1,4 +1,4 @@
--- `part` meets its contract. The invariant: the part is answered up to `at`. The measure: what is left of the text. Assumes
+-- `answer_part` meets its contract. The invariant: the part is answered up to `at`. The measure: what is left of the text. Assumes
 -- nothing.
 use mathlib.Core.Path.{_≡_, refl, _∙_}
 use mathlib.Core.List.{List}
@@ -10,17 +10,17 @@ use Rattle.command_lines.specs.Input.{Holds}
 use Rattle.command_lines.proofs.Buffers.{gathers-moves, gathers-fits}
 use Rattle.sheetmark.specs.Answering.{state}
 use Rattle.sheetmark.proofs.Answering.{SoFar, so-far-none, so-far-line, so-far-open, so-far-all}
-use Rattle.sheetmark.proofs.part.Statement.{statement}
-use Rattle.sheetmark.proofs.part.Tie as tie
+use Rattle.sheetmark.proofs.answer_part.Statement.{statement}
+use Rattle.sheetmark.proofs.answer_part.Tie as tie
 
 abbrev Inv-loop : tie.InvT-loop
-Inv-loop text line₀ out₀ storage₀ journal₀ at₀ now₀ line out storage journal at now =
+Inv-loop text line₀ out₀ storage₀ journal₀ at₀ current₀ line out storage journal at current =
     (length line ≡ length line₀) × (length out ≡ length out₀) × (length storage ≡ length storage₀) × (length journal ≡ length journal₀)
-    × (now .kept ≤ length line)
-    × ((l : List ℕ) → Holds line₀ (now₀ .kept) l → SoFar text l at (state now₀ out₀ storage₀ journal₀) (state now out storage journal) (now .kept) line)
+    × (current .kept ≤ length line)
+    × ((l : List ℕ) → Holds line₀ (current₀ .kept) l → SoFar text l at (state current₀ out₀ storage₀ journal₀) (state current out storage journal) (current .kept) line)
 
 abbrev μ-loop : tie.MeasureT-loop
-μ-loop text line₀ out₀ storage₀ journal₀ at₀ now₀ line out storage journal at now = length text - at
+μ-loop text line₀ out₀ storage₀ journal₀ at₀ current₀ line out storage journal at current = length text - at
 
 loop-holds : tie.Need-loop-holds Inv-loop μ-loop
 loop-holds c = (refl, refl, refl, refl, c .before .before .before .before .before .pre .0, λ l h. so-far-none _ _ _ _ _ h)
@@ -28,8 +28,8 @@ loop-holds c = (refl, refl, refl, refl, c .before .before .before .before .befor
 gather-requires : tie.Need-gather-requires Inv-loop μ-loop
 gather-requires c κs = search needs
 
-one-line-requires : tie.Need-one-line-requires Inv-loop μ-loop
-one-line-requires c κs =
+answer-kept-line-requires : tie.Need-answer-kept-line-requires Inv-loop μ-loop
+answer-kept-line-requires c κs =
     let g = c .before .before .before .before .before .before .before .gather in
     omega (arith, gathers-fits _ _ _ _ _ _ (g .ensures) (c .before .before .before .before .before .before .before .before .before .before .loop .inv .4), g .kept .1 .1 .0)
 
@@ -42,7 +42,7 @@ loop-again : tie.Need-loop-again Inv-loop μ-loop
 loop-again c =
     let i = c .before .before .before .before .before .before .before .before .before .before .before .before .before .before .before .before .before .loop .inv in
     let g = c .before .before .before .before .before .before .before .before .before .before .before .before .before .before .gather in
-    let o = c .before .before .before .before .before .before .one-line in
+    let o = c .before .before .before .before .before .before .answer-kept-line in
     let pre = c .before .before .before .before .before .before .before .before .before .before .before .before .before .before .before .before .before .before .before .before .before .before .before .pre in (
       g .kept .1 .1 .0 ∙ i .0,
       o .kept .1 .1 .0 ∙ i .1,
@@ -85,15 +85,15 @@ same-length-4 c = c .before .loop .inv .3
 returns : tie.Need-returns Inv-loop μ-loop
 returns c = (λ l h. so-far-all _ _ _ _ _ _ _ (c .loop-test .left) (c .before .loop .inv .5 l h), c .before .loop .inv .4)
 
-pub part-spec : {M : Type 1} → statement M
-part-spec =
+pub answer-part-spec : {M : Type 1} → statement M
+answer-part-spec =
     tie.close
     (tie.spec
     Inv-loop
     μ-loop
     loop-holds
     gather-requires
-    one-line-requires
+    answer-kept-line-requires
     loop-less
     loop-again
     loop-less-2

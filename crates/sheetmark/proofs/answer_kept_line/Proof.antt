@@ -1,4 +1,4 @@
--- `one_line` meets its contract. Assumes nothing.
+-- `answer_kept_line` meets its contract. Assumes nothing.
 use mathlib.Core.Path.{sym, ap, _∙_}
 use Rattle.sheetmark.specs.declared.Session.{Session}
 use borrow.Author.Tests.{not-true, not-false}
@@ -6,8 +6,8 @@ use Rattle.sheetmark.proofs.Answering.{room-made, room-there}
 use mathlib.Core.Logic.{⊎-elim}
 use lib.Seq.{length-take-le}
 use borrow.Author.Needs.{needs}
-use Rattle.sheetmark.proofs.one_line.Statement.{statement}
-use Rattle.sheetmark.proofs.one_line.Tie as tie
+use Rattle.sheetmark.proofs.answer_kept_line.Statement.{statement}
+use Rattle.sheetmark.proofs.answer_kept_line.Tie as tie
 
 has-room-requires : tie.Need-has-room-requires
 has-room-requires c κs = search needs
@@ -37,14 +37,14 @@ returns c =
     let s = c .before .before .before .before .before .before .before .before .before .before .before .before .before .before .before .before .before .before .args .session in
     let if1 = c .before .before .before .before .before .before .before .before .before .before .before .if1 in (
       ⊎-elim
-          (λ w. room-made s (if1 .next) _ _ _ _ _ (sym has ∙ not-true _ (w .0 .taken)) (ap (λ (x : Session). x .used) (w .3)) (ap (λ (x : Session). x .head) (w .3)) (ap (λ (x : Session). x .live) (w .3)) (a .0))
+          (λ w. room-made s (if1 .next) _ _ _ _ _ (sym has ∙ not-true _ (w .0 .taken)) (ap (λ (x : Session). x .filled) (w .3)) (ap (λ (x : Session). x .head) (w .3)) (ap (λ (x : Session). x .live) (w .3)) (a .0))
           (λ w. room-there _ _ _ _ _ _ _ (sym has ∙ not-false _ (w .0 .left)) (w .1) (a .0))
           (if1 .came),
       a .1,
     )
 
-pub one-line-spec : {M : Type 1} → statement M
-one-line-spec =
+pub answer-kept-line-spec : {M : Type 1} → statement M
+answer-kept-line-spec =
     tie.close
     (tie.spec
     has-room-requires

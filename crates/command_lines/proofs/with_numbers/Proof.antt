@@ -1,7 +1,7 @@
--- `command_lines::ranged` meets its contract: each arm is the case of `with` that its word and pair say. Assumes nothing.
+-- `command_lines::with_numbers` meets its contract: each arm is the case of `with` that its keyword and pair say. Assumes nothing.
 use borrow.Author.Needs.{needs}
-use Rattle.command_lines.proofs.ranged.Statement.{statement}
-use Rattle.command_lines.proofs.ranged.Tie as tie
+use Rattle.command_lines.proofs.with_numbers.Statement.{statement}
+use Rattle.command_lines.proofs.with_numbers.Tie as tie
 
 enum-known-numbers : tie.Need-enum-known-numbers
 enum-known-numbers c = search needs
@@ -48,8 +48,8 @@ returns-6 c = simp (c .enum-told6 .given .1, c .before .before .before .numbers 
 returns-7 : tie.Need-returns-7
 returns-7 c = simp (c .enum-told7 .given .1, c .before .before .before .numbers .given .1)
 
-pub ranged-spec : {M : Type 1} → statement M
-ranged-spec =
+pub with-numbers-spec : {M : Type 1} → statement M
+with-numbers-spec =
     tie.close
     (tie.spec
     enum-known-numbers
