@@ -4,7 +4,7 @@ use mathlib.Core.Bool.{Bool, true, false, _&&_, cond, false≢true}
 use mathlib.Core.List.{List}
 use Prim.Native.Nat.{ℕ, _*_, _%_, _/_, _≤_, _<_}
 use native.Mathlib.Omega.{arith}
-use borrow.Author.Tests.{le-leb, lt-ltb, eqb-true}
+use borrow.Author.Tests.{le-leb, eqb-true}
 use lib.Dec.{eqb, leb}
 use lib.ListN.{length}
 use Rattle.positions.specs.Positions.{Positions, none, count}
@@ -14,6 +14,7 @@ use Rattle.range_bitset.specs.Layout.{allowed}
 use Rattle.range_bitset.specs.Represents.{Represents}
 use Rattle.range_bitset.specs.Answers.{Reply, allowedCapacity, goodHead, storageRefusal, rangeRefusal, pointRefusal}
 use Rattle.range_bitset.specs.Entries.{Answers}
+use Rattle.range_bitset.proofs.Heads.{range-accepts, point-accepts}
 use Rattle.ledger.specs.Machine.{Machine, fresh, Call, Outcome, step, after, setOf, population, used}
 use Rattle.ledger.specs.Memory.{Memory, memory, goodLedger, lentEnough, lentRefusal, Holds}
 use Rattle.ledger.specs.Entries.{newHead, newOf, refusalOf}
@@ -22,7 +23,7 @@ use Rattle.ledger.specs.declared.Ledger.{Ledger}
 use Rattle.ledger.specs.declared.Opened.{Opened}
 use Rattle.ledger.specs.declared.Opened.the-variants as opened
 use Rattle.ledger.proofs.Machines.{kept-fresh, population-sum}
-use Rattle.ledger.proofs.Refusals.{lent-accepted, set-accepts, range-accepts}
+use Rattle.ledger.proofs.Refusals.{lent-accepted, set-accepts}
 
 -- ---- what new gives
 
@@ -97,8 +98,7 @@ module _ (x : Memory) (m : Machine) (h : Holds x m) where
   in-range e l = range-accepts (x .head .set) (length (x .storage)) e accepted (rw (h .capacity) l)
 
   in-point : (i : ℕ) → i < m .capacity → pointRefusal (x .head .set) (length (x .storage)) i ≡ 0
-  unfolding pointRefusal
-  in-point i l = rw (accepted, h .capacity, lt-ltb i (m .capacity) l)
+  in-point i l = point-accepts (x .head .set) (length (x .storage)) i accepted (rw (h .capacity) l)
 
   -- a query that the set answers is answered for the machine's set
   asked : {k : ℕ} {f : Positions → Reply} {r : Reply} → k ≡ 0 → Answers k (x .head .set) (x .storage) f r → r ≡ f (setOf m)

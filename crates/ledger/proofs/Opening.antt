@@ -19,14 +19,14 @@ use Rattle.range_bitset.specs.Entries.{newOf as setNew}
 use Rattle.range_bitset.specs.declared.RangeBitset.{RangeBitset}
 use Rattle.range_bitset.specs.declared.Made.{Made}
 use Rattle.range_bitset.specs.declared.Made.the-variants as made
-use Rattle.range_bitset.proofs.Heads.{allowed-bounds}
+use Rattle.range_bitset.proofs.Heads.{allowed-bounds, represented-good, accepted-storage}
 use Rattle.ledger.specs.Entries.{newOf, refusalOf, openRefusal, OpenEnsures}
 use Rattle.ledger.specs.Machine.{openedWith, setOf, used}
 use Rattle.ledger.specs.Memory.{lentEnough, memory, Holds}
 use Rattle.ledger.specs.Inner.{Within, Reassigns, fileRuns, OpensRuns}
 use Rattle.ledger.specs.declared.Opened.{Opened}
 use Rattle.ledger.proofs.Machines.{kept-opened}
-use Rattle.ledger.proofs.Refusals.{lent-both, accepted-lent, good-again, represented-good, accepted-storage}
+use Rattle.ledger.proofs.Refusals.{lent-both, accepted-lent, good-again}
 use Rattle.ledger.proofs.Reassigning.{ascending-within, ascending-any}
 use Rattle.saved_list.specs.Format.{savedWords, savedCount, savedCapacity, savedRuns, savedPositions, Headed, Whole, headed, whole, firstBadRun}
 use Rattle.saved_list.specs.Answers.{refuses, headerAnswer, headerOf, lengthAnswer, lengthOf, runsAnswer, runsOf}

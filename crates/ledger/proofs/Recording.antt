@@ -16,6 +16,7 @@ use Rattle.range_bitset.specs.declared.RangeBitset.{RangeBitset}
 use Rattle.range_bitset.specs.declared.Assigned.{Assigned}
 use Rattle.range_bitset.specs.declared.Counted.{Counted}
 use Rattle.range_bitset.specs.declared.Counted.the-variants as counted
+use Rattle.range_bitset.proofs.Heads.{represented-good, range-accepts}
 use Rattle.ledger.specs.Machine.{Machine, Range, setOf, used, needOf, step, nextOf}
 use Rattle.ledger.specs.Journal.{journalOf}
 use Rattle.ledger.specs.Memory.{Memory, memory, lentRefusal, callRefusal, Holds}
@@ -23,7 +24,7 @@ use Rattle.ledger.specs.Entries.{CallEnsures, flagAfter}
 use Rattle.ledger.specs.Inner.{RunsFit, WritesCall}
 use Rattle.ledger.specs.declared.Ledger.{Ledger}
 use Rattle.ledger.proofs.Machines.{stayed, went, step-outside, step-full, step-range, kept-step, set-after-range, needs-added, journal-added}
-use Rattle.ledger.proofs.Refusals.{represented-good, declined-as, LentEnough, lent-accepted, accepted-lent, set-accepts, range-accepts, ledger-set, good-again}
+use Rattle.ledger.proofs.Refusals.{declined-as, LentEnough, lent-accepted, accepted-lent, set-accepts, ledger-set, good-again}
 
 module _ (h : Ledger) (st j : List ℕ) (a e : ℕ) (v : Bool) where
   -- ---- the refusals of the table
