@@ -1,19 +1,19 @@
--- What an accepted reply, head, storage, range and point say, and what is enough for each to be accepted. Assumes nothing.
-use mathlib.Core.Path.{_≡_, refl, ap, _∙_}
-use mathlib.Core.Bool.{Bool, true, false, cond}
+-- What an accepted reply, head, storage, range and point say, what is enough for each to be accepted, and a fresh set's head. Assumes nothing.
+use mathlib.Core.Path.{_≡_, refl, sym, ap, _∙_}
+use mathlib.Core.Bool.{Bool, true, false, cond, false≢true}
 use mathlib.Core.List.{List}
-use Prim.Native.Nat.{ℕ, zero, suc, _≤_, _<_}
+use Prim.Native.Nat.{ℕ, zero, suc, _*_, _/_, _%_, _≤_, _<_}
 use native.Mathlib.Omega.{arith}
 use lib.Dec.{eqb, leb, ltb}
 use lib.Count.{ones}
 use lib.ListN.{length}
 use borrow.Author.Tests.{leb-true, le-leb, ltb-true, ltb-false, lt-ltb, le-ltb, eqb-true, eqb-false}
-use Rattle.positions.specs.Positions.{Positions}
+use Rattle.positions.specs.Positions.{Positions, none}
 use Rattle.positions.proofs.Bools.{and-left, and-right}
-use Rattle.positions.proofs.Counts.{count-le}
+use Rattle.positions.proofs.Counts.{count-le, count-none}
 use Rattle.range_bitset.specs.Layout.{allowed, needed}
 use Rattle.range_bitset.specs.Represents.{Represents, capacityOf}
-use Rattle.range_bitset.specs.Answers.{Reply, Number, Nothing, Refusal, refused, Accepted, goodHead, storageRefusal, rangeRefusal, pointRefusal, firstOf}
+use Rattle.range_bitset.specs.Answers.{Reply, Number, Nothing, Refusal, refused, Accepted, allowedCapacity, goodHead, storageRefusal, rangeRefusal, pointRefusal, firstOf}
 use Rattle.range_bitset.specs.Inner.{Room}
 use Rattle.range_bitset.specs.declared.RangeBitset.{RangeBitset}
 
@@ -77,6 +77,24 @@ pub storage-again : (h h′ : RangeBitset) (n n′ : ℕ) (st : List ℕ) (s : P
 storage-again h h′ n n′ st s z w t e =
     let a = storage-accepted h n z in
     accepted-storage h′ n′ (represented-good h h′ st s (a .0) w t) (rw (w, e) (a .1))
+
+-- ---- a fresh set
+
+abbrev pub freshHead : ℕ → RangeBitset
+freshHead W = record { words = W; len = 0; allocated = false }
+
+pub fresh-good : (capacity : ℕ) → allowedCapacity capacity ≡ true → goodHead (freshHead (capacity / 64)) ≡ true
+unfolding allowedCapacity goodHead
+fresh-good capacity a =
+    rw (and-right (eqb (capacity % 64) 0) (allowed (capacity / 64)) a, le-leb 0 (64 * (capacity / 64)) (omega arith))
+
+pub fresh-represents : (W : ℕ) (st : List ℕ) → Represents (freshHead W) st none
+fresh-represents W st =
+    record {
+      fresh = λ e i l. refl;
+      begun = λ e. absurd (false≢true e);
+      counted = sym (count-none none 0 (64 * W) (λ i p q. refl));
+    }
 
 -- ---- a range, and a point
 
