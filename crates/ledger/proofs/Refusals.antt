@@ -1,4 +1,4 @@
--- Laws of the refusals 2 and 3: how a declined call answers, what an accepted head and lent slices say, and what each test of the code decides. Assumes nothing.
+-- Laws of the refusals: what a call promises that is declined, and of the refusals 2 and 3 what an accepted head and lent slices say, and what each test of the code decides. Assumes nothing.
 use mathlib.Core.Path.{_≡_, refl, sym, ap, _∙_}
 use mathlib.Core.Bool.{Bool, true, false, _&&_, cond}
 use mathlib.Core.List.{List}
@@ -16,16 +16,38 @@ use Rattle.range_bitset.specs.declared.Counted.{Counted}
 use Rattle.range_bitset.specs.declared.Counted.the-variants as counted
 use Rattle.range_bitset.specs.declared.RangeBitset.{RangeBitset}
 use Rattle.range_bitset.proofs.Heads.{good-bounds, accepted-storage, represented-good}
-use Rattle.ledger.specs.Machine.{Call}
-use Rattle.ledger.specs.Memory.{memory, goodLedger, lentEnough, lentRefusal, wipeRefusal}
-use Rattle.ledger.specs.Entries.{CallEnsures}
+use Rattle.ledger.specs.Machine.{Machine, Call, Range, Back, Wipe, step}
+use Rattle.ledger.specs.Memory.{Memory, memory, callRefusal, Holds, goodLedger, lentEnough, lentRefusal, wipeRefusal}
+use Rattle.ledger.specs.Entries.{CallEnsures, flagAfter}
 use Rattle.ledger.specs.declared.Ledger.{Ledger}
+use Rattle.ledger.proofs.Machines.{stayed}
 
 -- ---- the answer and the head as `declined` gives them
 
 pub declined-as : (c : Call) (h : Ledger) (st j : List ℕ) (k : ℕ) (r : Counted) (h′ : Ledger) → r ≡ counted.Refused k → h′ ≡ h
     → CallEnsures c (memory h st j) (Refusal k) (memory h st j) → CallEnsures c (memory h st j) (ofCounted r) (memory h′ st j)
 declined-as c h st j k r h′ p q d = rw (p, q) d
+
+-- ---- a call that the table refuses, given that the machine refuses it too
+
+pub refused-call : (c : Call) (x : Memory) (k : ℕ) → k ≡ callRefusal c x → (k ≡ 0 → ⊥)
+    → ((m : Machine) → Holds x m → step m c ≡ stayed m k) → CallEnsures c x (Refusal k) x
+refused-call c x k e z f =
+    record {
+      refuses = λ w. ap Refusal e;
+      only-6 = λ w. absurd (z (e ∙ w));
+      unchanged = λ w. refl;
+      storage-kept = refl;
+      journal-kept = λ i w. refl;
+      answers = λ m q. rw (f m q);
+      holds = λ m q. rw (f m q) q;
+      flag = λ m q. same m c;
+    }
+  where
+    same : (m : Machine) (c : Call) → x .head .set .allocated ≡ flagAfter (x .head .set .allocated) m c (Refusal k)
+    same m (Range a e v) = refl
+    same m Back = refl
+    same m Wipe = refl
 
 -- ---- what is lent is enough
 
