@@ -1,22 +1,21 @@
 -- The returns of the audit over the blocks, over a storage, and of the entry: what each tells, from what the code has there.
 -- Assumes nothing.
-use mathlib.Core.Path.{_≡_, refl, ap, sym, _∙_, subst, ap₂}
+use mathlib.Core.Path.{_≡_, refl, ap, sym, _∙_, subst}
 use mathlib.Core.Logic.{inl, inr}
-use mathlib.Core.Bool.{Bool, true, false, true≢false, cond}
+use mathlib.Core.Bool.{Bool, true, false, true≢false}
 use mathlib.Core.List.{List}
 use Prim.Native.Nat.{ℕ, _+_, _*_, _/_, _≤_, _<_, min}
 use native.Mathlib.Decide.{decLt}
 use native.Mathlib.Omega.{arith}
 use lib.Dec.{eqb}
 use lib.ListN.{length}
-use borrow.Author.Tests.{lt-ltb}
 use Rattle.positions.specs.Positions.{Positions, count}
 use Rattle.positions.proofs.Counts.{count-split, count-empty, count-le}
 use Rattle.range_bitset.specs.Layout.{blocks, wordsOf}
 use Rattle.range_bitset.specs.Read.{stateOf}
-use Rattle.range_bitset.specs.Represents.{blockCount, capacityOf}
+use Rattle.range_bitset.specs.Represents.{blockCount}
 use Rattle.audit.specs.Sound.{SoundStorage, Sound, Words}
-use Rattle.range_bitset.specs.Answers.{storageRefusal, pointRefusal, firstOf}
+use Rattle.range_bitset.specs.Answers.{storageRefusal, pointRefusal}
 use Rattle.range_bitset.specs.Shown.{topsOf, blockOf, TopsEnsures, BlockEnsures}
 use Rattle.audit.specs.Entry.{AuditEnsures}
 use Rattle.audit.specs.Inner.{Tells, Audits, BlockAudited, BlocksAudited, StorageAudited, SoundMasks, InWords, SoundMixed, SoundAt, SoundBlocks}
@@ -33,7 +32,7 @@ use Rattle.range_bitset.specs.declared.ShownTops.the-variants as tops
 use Rattle.range_bitset.specs.declared.ShownBlock.{ShownBlock}
 use Rattle.range_bitset.specs.declared.ShownBlock.the-variants as block
 use Rattle.range_bitset.specs.declared.Tested.the-variants as tested
-use Rattle.range_bitset.proofs.Heads.{accepted}
+use Rattle.range_bitset.proofs.Heads.{accepted, point-accepts}
 use Rattle.audit.proofs.AuditBlocks.{told-not, told-as, told-eq, masks-fit, fit-masks, mixed-counted, empty-counted, full-counted, words-in, shown-sound, sound-shown, shown-empty, shown-full, shown-mixed, shown-refused}
 
 -- ---- answers that tell how many
@@ -109,8 +108,7 @@ module _ (h : RangeBitset) (st : List ℕ) (e : storageRefusal h (length st) ≡
 
 -- an accepted head and a block of it: its first position is accepted
 pub block-accepted : (h : RangeBitset) (n b : ℕ) → storageRefusal h n ≡ 0 → b < blocks (h .words) → pointRefusal h n (4096 * b) ≡ 0
-unfolding pointRefusal
-block-accepted h n b e l = ap₂ (λ (k : ℕ) (t : Bool). firstOf k (cond t 0 4)) e (lt-ltb (4096 * b) (capacityOf h) (omega arith))
+block-accepted h n b e l = point-accepts h n (4096 * b) e (omega arith)
 
 unmixed : State → ℕ
 unmixed Empty = 0

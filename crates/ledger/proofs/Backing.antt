@@ -13,48 +13,24 @@ use Rattle.positions.specs.Positions.{Positions, count, one}
 use Rattle.positions.specs.Runs.{Run, changedRuns, lengths}
 use Rattle.positions.proofs.Assigned.{changed-le}
 use Rattle.positions.proofs.Changes.{changed-lengths}
-use Rattle.range_bitset.proofs.Heads.{good-bounds}
+use Rattle.range_bitset.proofs.Heads.{accepted-refused, good-bounds}
 use Rattle.range_bitset.specs.Represents.{Represents, capacityOf}
 use Rattle.range_bitset.specs.Answers.{Number, Refusal, ofCounted, storageRefusal}
 use Rattle.range_bitset.specs.Entries.{ClearEnsures}
 use Rattle.range_bitset.specs.declared.RangeBitset.{RangeBitset}
 use Rattle.range_bitset.specs.declared.Assigned.{Assigned}
-use Rattle.ledger.specs.Machine.{Machine, Standing, Call, Range, Back, Wipe, held, setOf, population, needs, used, made, Stands, Made, withStanding, step}
+use Rattle.ledger.specs.Machine.{Machine, Standing, Back, Wipe, held, setOf, population, needs, used, made, Stands, Made, withStanding, step}
 use Rattle.ledger.specs.Journal.{entry, journalOf}
 use Rattle.ledger.specs.Memory.{Memory, memory, Holds, lentRefusal, wipeRefusal, callRefusal}
-use Rattle.ledger.specs.Entries.{CallEnsures, restores, flagAfter}
+use Rattle.ledger.specs.Entries.{CallEnsures, restores}
 use Rattle.ledger.specs.Inner.{lastOf, readRuns, changedByRuns, Within, AssignsRuns}
 use Rattle.ledger.specs.declared.Ledger.{Ledger}
 use Rattle.ledger.specs.declared.Last.{Last}
 use Rattle.ledger.specs.declared.Last.the-variants as last
-use Rattle.range_bitset.proofs.Heads.{accepted-refused}
-use Rattle.ledger.proofs.Machines.{standing-entry, kept-fresh, kept-step, stayed, step-none, step-back, none-standing, set-after-back, journal-length}
+use Rattle.ledger.proofs.Machines.{standing-entry, kept-fresh, kept-step, step-none, step-back, none-standing, set-after-back, journal-length}
 use Rattle.ledger.proofs.Journals.{length-entry, entry-last, packed-runs, packed-value, read-entry}
 use Rattle.ledger.proofs.Reassigning.{read-take, changed-within, any-lengths, back-count}
-use Rattle.ledger.proofs.Refusals.{LentEnough, lent-accepted, lent-again, ledger-set, lent-wipes, wipe-accepted, set-accepts}
-
--- ---- a call that the table refuses, given that the machine refuses it too
-
-pub refused-call : (c : Call) (x : Memory) (k : ℕ) → k ≡ callRefusal c x → (k ≡ 0 → ⊥)
-    → ((m : Machine) → Holds x m → step m c ≡ stayed m k) → CallEnsures c x (Refusal k) x
-refused-call c x k e z f =
-    record {
-      refuses = λ w. ap Refusal e;
-      only-6 = λ w. absurd (z (e ∙ w));
-      exactly-6 = λ w. absurd (z (e ∙ w));
-      empty-6 = λ w. absurd (z (e ∙ w));
-      unchanged = λ w. refl;
-      storage-kept = refl;
-      journal-kept = λ i w. refl;
-      answers = λ m q. rw (f m q);
-      holds = λ m q. rw (f m q) q;
-      flag = λ m q. same m c;
-    }
-  where
-    same : (m : Machine) (c : Call) → x .head .set .allocated ≡ flagAfter (x .head .set .allocated) m c (Refusal k)
-    same m (Range a e v) = refl
-    same m Back = refl
-    same m Wipe = refl
+use Rattle.ledger.proofs.Refusals.{refused-call, LentEnough, lent-accepted, lent-again, ledger-set, lent-wipes, wipe-accepted, set-accepts}
 
 -- a call that needs no number is not refused for want of any
 needs-none : (n : ℕ) → _≡_ {A = ℕ} 0 (cond (leb 0 n) 0 6)

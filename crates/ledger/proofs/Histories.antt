@@ -1,34 +1,29 @@
 -- Demand 3's proof: from what new or open gives, through each call's promise, to what can be asked afterwards. Assumes nothing.
-use mathlib.Core.Path.{_≡_, refl, sym, ap, subst, _∙_}
-use mathlib.Core.Bool.{Bool, true, false, _&&_, cond, false≢true}
+use mathlib.Core.Path.{_≡_, refl, ap, subst, _∙_}
+use mathlib.Core.Bool.{Bool, true, false, _&&_, cond}
 use mathlib.Core.List.{List}
-use Prim.Native.Nat.{ℕ, _*_, _%_, _/_, _≤_, _<_}
+use Prim.Native.Nat.{ℕ, _%_, _/_, _≤_, _<_}
 use native.Mathlib.Omega.{arith}
-use borrow.Author.Tests.{le-leb, lt-ltb, eqb-true}
+use borrow.Author.Tests.{le-leb, eqb-true}
 use lib.Dec.{eqb, leb}
 use lib.ListN.{length}
-use Rattle.positions.specs.Positions.{Positions, none, count}
+use Rattle.positions.specs.Positions.{Positions, count}
 use Rattle.positions.proofs.Bools.{and-left, and-right}
-use Rattle.positions.proofs.Counts.{count-none}
 use Rattle.range_bitset.specs.Layout.{allowed}
-use Rattle.range_bitset.specs.Represents.{Represents}
-use Rattle.range_bitset.specs.Answers.{Reply, allowedCapacity, goodHead, storageRefusal, rangeRefusal, pointRefusal}
+use Rattle.range_bitset.specs.Answers.{Reply, allowedCapacity, storageRefusal, rangeRefusal, pointRefusal}
 use Rattle.range_bitset.specs.Entries.{Answers}
+use Rattle.range_bitset.proofs.Heads.{range-accepts, point-accepts, fresh-good, fresh-represents}
 use Rattle.ledger.specs.Machine.{Machine, fresh, Call, Outcome, step, after, setOf, population, used}
 use Rattle.ledger.specs.Memory.{Memory, memory, goodLedger, lentEnough, lentRefusal, Holds}
 use Rattle.ledger.specs.Entries.{newHead, newOf, refusalOf}
-use Rattle.ledger.specs.History.{Begun, by-new, by-open, Chain, none as no-call, call, Agrees, History}
+use Rattle.ledger.specs.History.{Begun, by-new, by-open, Chain, call, Agrees, History}
 use Rattle.ledger.specs.declared.Ledger.{Ledger}
 use Rattle.ledger.specs.declared.Opened.{Opened}
 use Rattle.ledger.specs.declared.Opened.the-variants as opened
 use Rattle.ledger.proofs.Machines.{kept-fresh, population-sum}
-use Rattle.ledger.proofs.Refusals.{lent-accepted, set-accepts, range-accepts}
+use Rattle.ledger.proofs.Refusals.{lent-accepted, set-accepts}
 
 -- ---- what new gives
-
-fresh-set : (W j : ℕ) (st : List ℕ) → Represents (newHead W j false .set) st none
-fresh-set W j st =
-    record { fresh = λ e i h. refl; begun = λ e. absurd (false≢true e); counted = sym (count-none none 0 (64 * W) (λ i p q. refl)) }
 
 abbrev pub headOr : Ledger → Opened → Ledger
 headOr h (opened.Head x) = x
@@ -38,17 +33,17 @@ headOr h (opened.BadRun i) = h
 module _ (capacity j : ℕ) (st journal : List ℕ) where
   holds-fresh : (allowedCapacity capacity && leb j 16384) ≡ true → lentEnough (capacity / 64) j (length st) (length journal) ≡ true
       → Holds (memory (newHead (capacity / 64) j false) st journal) (fresh capacity j)
-  unfolding allowedCapacity goodHead goodLedger lentRefusal used setOf
+  unfolding allowedCapacity goodLedger lentRefusal used setOf
   holds-fresh p q =
       let good : allowedCapacity capacity ≡ true = and-left (allowedCapacity capacity) (leb j 16384) p in
       record {
         kept = kept-fresh capacity j;
         lent =
-            rw (and-right (eqb (capacity % 64) 0) (allowed (capacity / 64)) good, and-right (allowedCapacity capacity) (leb j 16384) p, q, le-leb 0 (64 * (capacity / 64)) (omega arith), le-leb 0 j (omega arith));
+            rw (fresh-good capacity good, and-right (allowedCapacity capacity) (leb j 16384) p, q, le-leb 0 j (omega arith));
         capacity = omega (arith, eqb-true (capacity % 64) 0 (and-left (eqb (capacity % 64) 0) (allowed (capacity / 64)) good));
         journal-length = refl;
         in-use = refl;
-        set = fresh-set (capacity / 64) j st;
+        set = fresh-represents (capacity / 64) st;
         journal = refl;
       }
 
@@ -97,8 +92,7 @@ module _ (x : Memory) (m : Machine) (h : Holds x m) where
   in-range e l = range-accepts (x .head .set) (length (x .storage)) e accepted (rw (h .capacity) l)
 
   in-point : (i : ℕ) → i < m .capacity → pointRefusal (x .head .set) (length (x .storage)) i ≡ 0
-  unfolding pointRefusal
-  in-point i l = rw (accepted, h .capacity, lt-ltb i (m .capacity) l)
+  in-point i l = point-accepts (x .head .set) (length (x .storage)) i accepted (rw (h .capacity) l)
 
   -- a query that the set answers is answered for the machine's set
   asked : {k : ℕ} {f : Positions → Reply} {r : Reply} → k ≡ 0 → Answers k (x .head .set) (x .storage) f r → r ≡ f (setOf m)

@@ -1,6 +1,6 @@
 -- The returns of `new` and `open`: what each gives, from what the code has there. Assumes nothing.
 use mathlib.Core.Path.{_≡_, refl, sym, ap, _∙_, subst}
-use mathlib.Core.Bool.{Bool, true, false, not, cond, false≢true}
+use mathlib.Core.Bool.{Bool, true, false, not, cond}
 use mathlib.Core.List.{List, [], _∷_}
 use Prim.Native.Nat.{ℕ, _*_, _/_, _%_, _≤_, _<_}
 use native.Mathlib.Omega.{arith}
@@ -10,23 +10,21 @@ use lib.ListN.{length}
 use Rattle.positions.proofs.Bools.{and-right}
 use Rattle.positions.specs.Positions.{Positions, none}
 use Rattle.positions.specs.Runs.{Ascending}
-use Rattle.positions.proofs.Counts.{count-none}
 use Rattle.positions.proofs.Runs.{covered-above}
 use Rattle.range_bitset.specs.Layout.{allowed}
 use Rattle.range_bitset.specs.Represents.{Represents}
 use Rattle.range_bitset.specs.Answers.{allowedCapacity, goodHead, storageRefusal}
-use Rattle.range_bitset.specs.Entries.{newOf as setNew}
 use Rattle.range_bitset.specs.declared.RangeBitset.{RangeBitset}
 use Rattle.range_bitset.specs.declared.Made.{Made}
 use Rattle.range_bitset.specs.declared.Made.the-variants as made
-use Rattle.range_bitset.proofs.Heads.{allowed-bounds}
+use Rattle.range_bitset.proofs.Heads.{allowed-bounds, represented-good, accepted-storage, freshHead, fresh-good, fresh-represents}
 use Rattle.ledger.specs.Entries.{newOf, refusalOf, openRefusal, OpenEnsures}
 use Rattle.ledger.specs.Machine.{openedWith, setOf, used}
 use Rattle.ledger.specs.Memory.{lentEnough, memory, Holds}
 use Rattle.ledger.specs.Inner.{Within, Reassigns, fileRuns, OpensRuns}
 use Rattle.ledger.specs.declared.Opened.{Opened}
 use Rattle.ledger.proofs.Machines.{kept-opened}
-use Rattle.ledger.proofs.Refusals.{lent-both, accepted-lent, good-again, represented-good, accepted-storage}
+use Rattle.ledger.proofs.Refusals.{lent-both, accepted-lent, good-again}
 use Rattle.ledger.proofs.Reassigning.{ascending-within, ascending-any}
 use Rattle.saved_list.specs.Format.{savedWords, savedCount, savedCapacity, savedRuns, savedPositions, Headed, Whole, headed, whole, firstBadRun}
 use Rattle.saved_list.specs.Answers.{refuses, headerAnswer, headerOf, lengthAnswer, lengthOf, runsAnswer, runsOf}
@@ -43,10 +41,6 @@ use Rattle.ledger.specs.declared.Ledger.{Ledger}
 use Rattle.ledger.specs.declared.Opened.the-variants as opened
 
 -- ---- the set's head
-
--- a fresh set's head
-abbrev pub freshHead : ℕ → RangeBitset
-freshHead W = record { words = W; len = 0; allocated = false }
 
 module _ (capacity : ℕ) (r : Made) (e : r ≡ setNew capacity) where
   pub set-declined : (k : ℕ) → r ≡ made.Refused k → allowedCapacity capacity ≡ false
@@ -161,21 +155,6 @@ module _ (file : List ℕ) (j n k : ℕ) where
 
 -- ---- `open`: accepted
 
-pub fresh-represents : (W : ℕ) (st : List ℕ) → Represents (freshHead W) st none
-fresh-represents W st =
-    record {
-      fresh = λ e i l. refl;
-      begun = λ e. absurd (false≢true e);
-      counted = sym (count-none none 0 (64 * W) (λ i p q. refl));
-    }
-
-fresh-good : (W : ℕ) → allowedCapacity (64 * W) ≡ true → goodHead (freshHead W) ≡ true
-unfolding allowedCapacity goodHead
-fresh-good W a =
-    let p : 64 * W / 64 ≡ W = omega arith in
-    let q : allowed W ≡ true = rw p at (and-right (eqb (64 * W % 64) 0) (allowed (64 * W / 64)) a) in
-    rw (q, le-leb 0 (64 * W) (omega arith))
-
 -- the head that the set's `new` gives for the file's capacity
 pub file-head : (capacity : ℕ) (W : ℕ) (h : RangeBitset) → capacity ≡ 64 * W → h ≡ freshHead (capacity / 64) → h ≡ freshHead W
 file-head capacity W h e q = let p : capacity / 64 ≡ W = omega arith in q ∙ ap freshHead p
@@ -185,7 +164,9 @@ module _ (file : List ℕ) (j : ℕ) (st lent : List ℕ) (h : Headed file) (a :
     (h′ : RangeBitset) (st′ : List ℕ) (long : length st′ ≡ length st)
     (o : OpensRuns (freshHead (savedWords file)) st file (savedCount file) h′ st′) where
   good : goodHead (freshHead (savedWords file)) ≡ true
-  good = fresh-good (savedWords file) a
+  good =
+      let p : savedCapacity file / 64 ≡ savedWords file = omega arith in
+      rw p at (fresh-good (savedCapacity file) a)
 
   ok : storageRefusal (freshHead (savedWords file)) (length st) ≡ 0
   ok = accepted-storage (freshHead (savedWords file)) (length st) good (lent-both (savedWords file) j (length st) (length lent) e .0)

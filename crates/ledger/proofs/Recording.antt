@@ -16,15 +16,15 @@ use Rattle.range_bitset.specs.declared.RangeBitset.{RangeBitset}
 use Rattle.range_bitset.specs.declared.Assigned.{Assigned}
 use Rattle.range_bitset.specs.declared.Counted.{Counted}
 use Rattle.range_bitset.specs.declared.Counted.the-variants as counted
+use Rattle.range_bitset.proofs.Heads.{accepted-refused, range-accepts, represented-good}
 use Rattle.ledger.specs.Machine.{Machine, Range, setOf, used, needOf, step, nextOf}
 use Rattle.ledger.specs.Journal.{journalOf}
 use Rattle.ledger.specs.Memory.{Memory, memory, lentRefusal, callRefusal, Holds}
 use Rattle.ledger.specs.Entries.{CallEnsures, flagAfter}
 use Rattle.ledger.specs.Inner.{RunsFit, WritesCall}
 use Rattle.ledger.specs.declared.Ledger.{Ledger}
-use Rattle.range_bitset.proofs.Heads.{accepted-refused}
 use Rattle.ledger.proofs.Machines.{stayed, went, step-outside, step-full, step-range, kept-step, set-after-range, needs-added, journal-added}
-use Rattle.ledger.proofs.Refusals.{represented-good, declined-as, LentEnough, lent-accepted, accepted-lent, set-accepts, range-accepts, ledger-set, good-again}
+use Rattle.ledger.proofs.Refusals.{declined-as, refused-call, LentEnough, lent-accepted, accepted-lent, set-accepts, ledger-set, good-again}
 
 module _ (h : Ledger) (st j : List ℕ) (a e : ℕ) (v : Bool) where
   -- ---- the refusals of the table
@@ -61,38 +61,14 @@ module _ (h : Ledger) (st j : List ℕ) (a e : ℕ) (v : Bool) where
       → CallEnsures (Range a e v) before (ofCounted r) (memory h′ st j)
   not-lent k r h′ p q l n =
       declined-as (Range a e v) h st j k r h′ p q
-      (record {
-        refuses = λ z. ap Refusal (sym (call-lent k l n));
-        only-6 = λ z. absurd (n (sym (call-lent k l n) ∙ z));
-        exactly-6 = λ z. absurd (n (sym (call-lent k l n) ∙ z));
-        empty-6 = λ z. absurd (n (sym (call-lent k l n) ∙ z));
-        unchanged = λ z. refl;
-        storage-kept = refl;
-        journal-kept = λ i z. refl;
-        answers = λ m x. absurd (n (l ∙ x .lent));
-        holds = λ m x. absurd (n (l ∙ x .lent));
-        flag = λ m x. refl;
-      })
+      (refused-call (Range a e v) before k (sym (call-lent k l n)) n (λ m x. absurd (n (l ∙ x .lent))))
 
   pub outside : (r : Counted) (h′ : Ledger) → r ≡ counted.Refused 4 → h′ ≡ h → lentRefusal h (length st) (length j) ≡ 0 → capacityOf (h .set) < e
       → CallEnsures (Range a e v) before (ofCounted r) (memory h′ st j)
   outside r h′ p q l n =
       declined-as (Range a e v) h st j 4 r h′ p q
-      (record {
-        refuses = λ z. ap Refusal (sym (call-outside l n));
-        only-6 = λ z. absurd (let y : _≡_ {A = ℕ} 4 0 = sym (call-outside l n) ∙ z in omega arith);
-        exactly-6 = λ z. absurd (let y : _≡_ {A = ℕ} 4 0 = sym (call-outside l n) ∙ z in omega arith);
-        empty-6 = λ z. absurd (let y : _≡_ {A = ℕ} 4 0 = sym (call-outside l n) ∙ z in omega arith);
-        unchanged = λ z. refl;
-        storage-kept = refl;
-        journal-kept = λ i z. refl;
-        answers = λ m x. rw (stays m x);
-        holds = λ m x. rw (stays m x) x;
-        flag = λ m x. refl;
-      })
-    where
-      stays : (m : Machine) → Holds before m → step m (Range a e v) ≡ stayed m 4
-      stays m x = step-outside m a e v (omega (arith, x .capacity))
+      (refused-call (Range a e v) before 4 (sym (call-outside l n)) (λ z. omega arith)
+      (λ m x. step-outside m a e v (omega (arith, x .capacity))))
 
   -- more numbers are needed than the journal has left
   full : (r : Counted) (h′ : Ledger) → r ≡ counted.Refused 6 → h′ ≡ h → lentRefusal h (length st) (length j) ≡ 0 → e ≤ capacityOf (h .set)

@@ -1,32 +1,55 @@
--- Laws of the refusals 2 and 3: how a declined call answers, what an accepted head and lent slices say, and what each test of the code decides. Assumes nothing.
+-- Laws of the refusals: what a call promises that is declined, and of the refusals 2 and 3 what an accepted head and lent slices say, and what each test of the code decides. Assumes nothing.
 use mathlib.Core.Path.{_≡_, refl, sym, ap, _∙_}
 use mathlib.Core.Bool.{Bool, true, false, _&&_, cond}
 use mathlib.Core.List.{List}
 use Prim.Native.Nat.{ℕ, _≤_, _<_}
 use native.Mathlib.Omega.{arith}
-use borrow.Author.Tests.{leb-true, le-leb, lt-leb, le-ltb, ltb-false}
-use lib.Dec.{leb, ltb}
+use borrow.Author.Tests.{leb-true, le-leb, lt-leb}
+use lib.Dec.{leb}
 use Rattle.positions.proofs.Bools.{and-left, and-right}
 use Rattle.positions.specs.Positions.{Positions}
-use Rattle.positions.proofs.Counts.{count-le}
-use Rattle.range_bitset.specs.Layout.{allowed, needed}
-use Rattle.range_bitset.specs.Represents.{Represents, capacityOf}
-use Rattle.range_bitset.specs.Answers.{Reply, Number, Nothing, Refusal, ofCounted, goodHead, storageRefusal, rangeRefusal}
+use Rattle.range_bitset.specs.Layout.{needed}
+use Rattle.range_bitset.specs.Represents.{Represents}
+use Rattle.range_bitset.specs.Answers.{Reply, Number, Nothing, Refusal, ofCounted, goodHead, storageRefusal}
 use Rattle.range_bitset.specs.Entries.{ofHead, LenEnsures}
 use Rattle.range_bitset.specs.declared.Counted.{Counted}
 use Rattle.range_bitset.specs.declared.Counted.the-variants as counted
 use Rattle.range_bitset.specs.declared.RangeBitset.{RangeBitset}
-use Rattle.range_bitset.proofs.Heads.{good-bounds}
-use Rattle.ledger.specs.Machine.{Call}
-use Rattle.ledger.specs.Memory.{memory, goodLedger, lentEnough, lentRefusal, wipeRefusal}
-use Rattle.ledger.specs.Entries.{CallEnsures}
+use Rattle.range_bitset.proofs.Heads.{good-bounds, accepted-storage, represented-good}
+use Rattle.ledger.specs.Machine.{Machine, Call, Range, Back, Wipe, step}
+use Rattle.ledger.specs.Memory.{Memory, memory, callRefusal, Holds, goodLedger, lentEnough, lentRefusal, wipeRefusal}
+use Rattle.ledger.specs.Entries.{CallEnsures, flagAfter}
 use Rattle.ledger.specs.declared.Ledger.{Ledger}
+use Rattle.ledger.proofs.Machines.{stayed}
 
 -- ---- the answer and the head as `declined` gives them
 
 pub declined-as : (c : Call) (h : Ledger) (st j : List ℕ) (k : ℕ) (r : Counted) (h′ : Ledger) → r ≡ counted.Refused k → h′ ≡ h
     → CallEnsures c (memory h st j) (Refusal k) (memory h st j) → CallEnsures c (memory h st j) (ofCounted r) (memory h′ st j)
 declined-as c h st j k r h′ p q d = rw (p, q) d
+
+-- ---- a call that the table refuses, given that the machine refuses it too
+
+pub refused-call : (c : Call) (x : Memory) (k : ℕ) → k ≡ callRefusal c x → (k ≡ 0 → ⊥)
+    → ((m : Machine) → Holds x m → step m c ≡ stayed m k) → CallEnsures c x (Refusal k) x
+refused-call c x k e z f =
+    record {
+      refuses = λ w. ap Refusal e;
+      only-6 = λ w. absurd (z (e ∙ w));
+      exactly-6 = λ w. absurd (z (e ∙ w));
+      empty-6 = λ w. absurd (z (e ∙ w));
+      unchanged = λ w. refl;
+      storage-kept = refl;
+      journal-kept = λ i w. refl;
+      answers = λ m q. rw (f m q);
+      holds = λ m q. rw (f m q) q;
+      flag = λ m q. same m c;
+    }
+  where
+    same : (m : Machine) (c : Call) → x .head .set .allocated ≡ flagAfter (x .head .set .allocated) m c (Refusal k)
+    same m (Range a e v) = refl
+    same m Back = refl
+    same m Wipe = refl
 
 -- ---- what is lent is enough
 
@@ -157,49 +180,15 @@ wipe-accepted h n e = by (goodLedger h) refl (lentEnough (h .set .words) 0 n 0) 
     by true p false q z = absurd (omega arith)
     by true p true q z = record { good = p; long = lent-both (h .set .words) 0 n 0 q .0 }
 
-pub accepted-storage : (h : RangeBitset) (n : ℕ) → goodHead h ≡ true → needed (h .words) ≤ n → storageRefusal h n ≡ 0
-unfolding storageRefusal
-accepted-storage h n g l = rw (g, le-ltb n (needed (h .words)) l)
-
--- the set's own calls are then not refused 2 or 3, nor 4 up to the capacity
+-- the set's own calls are then not refused 2 or 3
 pub set-accepts : (h : Ledger) (n : ℕ) → goodLedger h ≡ true → needed (h .set .words) ≤ n → storageRefusal (h .set) n ≡ 0
 set-accepts h n g l = accepted-storage (h .set) n (ledger-set h g) l
-
-pub range-accepts : (h : RangeBitset) (n e : ℕ) → storageRefusal h n ≡ 0 → e ≤ capacityOf h → rangeRefusal h n e ≡ 0
-unfolding rangeRefusal
-range-accepts h n e z l = rw (z, le-leb e (capacityOf h) l)
 
 pub lent-wipes : (h : Ledger) (n k : ℕ) → LentEnough h n k → wipeRefusal h n ≡ 0
 unfolding wipeRefusal
 lent-wipes h n k a = rw (a .good, enough (h .set .words) 0 n 0 (a .long) (omega arith))
 
 -- ---- the head that a call gives: the same words and journal length, a population that counts a set, U within J
-
-good-same : (h h′ : RangeBitset) → goodHead h ≡ true → h′ .words ≡ h .words → h′ .len ≤ capacityOf h′ → goodHead h′ ≡ true
-unfolding goodHead
-good-same h h′ g w l =
-    let q : allowed (h′ .words) ≡ true = ap allowed w ∙ and-left (allowed (h .words)) (leb (h .len) (capacityOf h)) g in
-    rw (q, le-leb (h′ .len) (capacityOf h′) l)
-
-pub represented-good : (h h′ : RangeBitset) (st : List ℕ) (s : Positions) → goodHead h ≡ true → h′ .words ≡ h .words → Represents h′ st s → goodHead h′ ≡ true
-represented-good h h′ st s g w t = good-same h h′ g w (omega (arith, t .counted, count-le s 0 (capacityOf h′)))
-
--- the same of a set's head and storage alone
-pub storage-accepted : (h : RangeBitset) (n : ℕ) → storageRefusal h n ≡ 0 → (goodHead h ≡ true) × (needed (h .words) ≤ n)
-unfolding storageRefusal
-storage-accepted h n e = by (goodHead h) refl (ltb n (needed (h .words))) refl e
-  where
-    by : (g : Bool) → goodHead h ≡ g → (l : Bool) → ltb n (needed (h .words)) ≡ l → _≡_ {A = ℕ} (cond g (cond l 3 0) 2) 0
-        → (goodHead h ≡ true) × (needed (h .words) ≤ n)
-    by true p true q z = absurd (omega arith)
-    by false p l q z = absurd (omega arith)
-    by true p false q z = (p, ltb-false _ _ q)
-
-pub storage-again : (h h′ : RangeBitset) (n n′ : ℕ) (st : List ℕ) (s : Positions) → storageRefusal h n ≡ 0 → h′ .words ≡ h .words
-    → Represents h′ st s → n′ ≡ n → storageRefusal h′ n′ ≡ 0
-storage-again h h′ n n′ st s z w t e =
-    let a = storage-accepted h n z in
-    accepted-storage h′ n′ (represented-good h h′ st s (a .0) w t) (rw (w, e) (a .1))
 
 pub lent-again : (h h′ : Ledger) (n k n′ k′ : ℕ) (st : List ℕ) (s : Positions) → LentEnough h n k → h′ .set .words ≡ h .set .words
     → Represents (h′ .set) st s → h′ .journal ≡ h .journal → h′ .used ≤ h .journal → n′ ≡ n → k′ ≡ k → lentRefusal h′ n′ k′ ≡ 0
