@@ -1,5 +1,5 @@
 -- The candidate masks: what a word, a block and the masks over them say of the positions of a value. Assumes nothing.
-use mathlib.Core.Path.{_≡_, ap, sym, _∙_}
+use mathlib.Core.Path.{_≡_, refl, ap, sym, _∙_}
 use mathlib.Core.Bool.{Bool, true, false, not, _&&_, true≢false, false≢true}
 use mathlib.Core.List.{List}
 use Prim.Native.Nat.{ℕ, suc, _+_, _*_, _-_, _^_, _≤_, _<_}
@@ -20,7 +20,7 @@ use Rattle.range_bitset.specs.Read.{ALL, stateOf}
 use Rattle.range_bitset.specs.Represents.{wordOf, anyWord, allWord, valid, nonzeroMask, fullMask, anyBlock, allBlock}
 use Rattle.range_bitset.specs.Inner.{Spans, Marks, wordStart, CandidateWords, CandidateBlocks}
 use Rattle.range_bitset.specs.declared.State.the-variants.{Empty, Mixed, Full}
-use Rattle.range_bitset.proofs.Words.{word-lt, word-bit, word-all, word-none, clear-positions, full-positions, state-empty, state-full, state-masked}
+use Rattle.range_bitset.proofs.Words.{valid-fits, word-lt, word-bit, word-all, word-none, clear-positions, full-positions, state-empty, state-full, state-masked}
 
 never : (v : Bool) → v ≡ not v → ⊥
 never true e = true≢false e
@@ -87,12 +87,9 @@ module _ (W b : ℕ) where
 -- ---- the returns of `candidate_words`
 
 module _ (W : ℕ) (st : List ℕ) (b : ℕ) (l : b < blocks W) where
-  valid-fits : valid W b < 2 ^ wordsOf W b
-  valid-fits = ones-lt (wordsOf W b)
-
   -- a mask cut to the block's words
   cut-fits : (m x : ℕ) → m ≡ valid W b → bitAnd m x < 2 ^ wordsOf W b
-  cut-fits m x e = omega (arith, and-le-l m x, valid-fits)
+  cut-fits m x e = omega (arith, and-le-l m x, valid-fits W b e)
 
   cut-bit : (m x j : ℕ) → m ≡ valid W b → j < wordsOf W b → bit (bitAnd m x) j ≡ bit x j
   cut-bit m x j e h =
@@ -121,7 +118,7 @@ module _ (W : ℕ) (st : List ℕ) (b : ℕ) (l : b < blocks W) where
     empty-zeros false e w =
         rw k
         (record {
-          fits = valid-fits;
+          fits = valid-fits W b refl;
           marks = λ s h. alike W b s false (clear-positions W s b (state-empty W st b l s h w));
         })
 
@@ -130,7 +127,7 @@ module _ (W : ℕ) (st : List ℕ) (b : ℕ) (l : b < blocks W) where
     full-ones true e w =
         rw k
         (record {
-          fits = valid-fits;
+          fits = valid-fits W b refl;
           marks = λ s h. alike W b s true (full-positions W s b (state-full W st b l s h w));
         })
 

@@ -10,7 +10,7 @@ use lib.ListN.{length, getD}
 use lib.Pow.{pow-mono, pow-pos}
 use borrow.Author.Tests.{le-leb}
 use Rattle.bits.proofs.Bits.{bit-ones, bit-ext}
-use Rattle.range_bitset.specs.Layout.{blocks, wordsOf, address, nonzero, full, population, topNonzero, topFull}
+use Rattle.range_bitset.specs.Layout.{blocks, address, nonzero, full, population, topNonzero, topFull}
 use Rattle.range_bitset.specs.Read.{stateOf}
 use Rattle.range_bitset.specs.Represents.{valid}
 use Rattle.range_bitset.specs.Answers.{storageRefusal, pointRefusal}
@@ -54,9 +54,6 @@ pub mixed-shown : (W : ℕ) (st : List ℕ) (b i k m p n : ℕ) → i ≡ addres
     → p ≡ address W (population b) → n ≡ mixedCount W st b m
     → _≡_ {A = MixedBlock} (record { nonzero = getD st i 0; full = getD st k 0; valid = m; population = getD st p 0; counted = n }) (mixedOf W st b)
 mixed-shown W st b i k m p n ei ek em ep en = rw (en, ei, ek, em, ep) refl
-
-pub valid-fits : (W b : ℕ) {v : ℕ} → v ≡ valid W b → v < 2 ^ wordsOf W b
-valid-fits W b e = let p = pow-pos (wordsOf W b) in omega arith
 
 -- the block in a state, with the numbers shown of it
 pub block-shown : (h : RangeBitset) (st : List ℕ) (i : ℕ) (x : State) (r : ShownBlock) → pointRefusal h (length st) i ≡ 0 → stateOf (h .words) st (i / 4096) ≡ x

@@ -8,7 +8,7 @@ use native.Mathlib.Nat.{add-zero}
 use native.Mathlib.Omega.{arith}
 use lib.Dec.{ltb}
 use lib.Count.{ones}
-use lib.Pow.{pow-mono}
+use lib.Pow.{pow-mono, pow-pos}
 use borrow.Author.Tests.{lt-ltb, ne-eqb, eqb-true, not-false}
 use Rattle.positions.specs.Positions.{Positions, count, countFrom}
 use Rattle.positions.proofs.Counts.{countFrom-shift, count-from, count-none, count-all, count-le}
@@ -82,6 +82,10 @@ words-some W b h =
     let n : 1 ≤ wordsOf W b = omega arith in
     let p : 2 ^ 1 ≤ 2 ^ wordsOf W b = pow-mono n in
     omega arith
+
+-- the mask of all its words
+pub valid-fits : (W b : ℕ) {v : ℕ} → v ≡ valid W b → v < 2 ^ wordsOf W b
+valid-fits W b e = let p = pow-pos (wordsOf W b) in omega arith
 
 module _ (W : ℕ) (s : Positions) (b : ℕ) where
   pub full-words : allBlock W s b ≡ true → (j : ℕ) → j < wordsOf W b → allWord s (64 * b + j) ≡ true
