@@ -17,7 +17,7 @@ use Rattle.positions.specs.Positions.{count}
 use Rattle.positions.proofs.Bools.{and-left, and-right}
 use Rattle.positions.proofs.Counts.{count-none, count-all}
 use Rattle.bits.specs.Bit.{bit}
-use Rattle.bits.proofs.Bits.{bit-zero, bit-and, bit-ones, bit-mod, bit-ext, bit-none}
+use Rattle.bits.proofs.Bits.{bit-zero, bit-and, bit-below, bit-ones, bit-mod, bit-ext, bit-none}
 use Rattle.bits.proofs.Masks.{bit-without}
 use Rattle.bits.proofs.Ones.{tz-set, bit-drop-lowest}
 use Rattle.range_bitset.specs.Layout.{blocks, wordsOf, at, nonzero, full}
@@ -32,7 +32,6 @@ use Rattle.range_bitset.specs.declared.ShownBlock.{ShownBlock}
 use Rattle.range_bitset.specs.declared.ShownBlock.the-variants as block
 use Rattle.range_bitset.specs.declared.State.{State}
 use Rattle.range_bitset.specs.declared.State.the-variants.{Empty, Mixed, Full}
-use Rattle.range_bitset.proofs.Walked.{below-of}
 use Rattle.range_bitset.proofs.Words.{word-ones}
 use Rattle.audit.proofs.SoundStorage.{plain-word, read-by}
 use Rattle.range_bitset.proofs.Populations.{masked-rows}
@@ -102,7 +101,7 @@ masks-fit n any all ha hb z =
 
 pub fit-masks : (n any all : ℕ) → any < 2 ^ n → ((j : ℕ) → bit all j ≡ true → bit any j ≡ true) → SoundMasks any all (2 ^ n - 1)
 fit-masks n any all h f =
-    record { fits = λ j p. bit-ones n j ∙ lt-ltb j n (below-of any n j h p); within-nonzero = f }
+    record { fits = λ j p. bit-ones n j ∙ lt-ltb j n (bit-below n any j h p); within-nonzero = f }
 
 -- ---- the walk over a block's stored words
 
@@ -234,7 +233,7 @@ module _ (W : ℕ) (st : List ℕ) (b : ℕ) (u : Words st) (m : stateOf W st b 
             let a = sym (stored-bit j) ∙ p in
             let n : bit (at W st (nonzero b)) j ≡ true = and-left (bit (at W st (nonzero b)) j) (not (bit (at W st (full b)) j)) a in
             let g : bit (at W st (full b)) j ≡ false = not-true _ (and-right (bit (at W st (nonzero b)) j) (not (bit (at W st (full b)) j)) a) in
-            z .mixed-words j (below-of (at W st (nonzero b)) (wordsOf W b) j (z .nonzero-fits) n) g n;
+            z .mixed-words j (bit-below (wordsOf W b) (at W st (nonzero b)) j (z .nonzero-fits) n) g n;
         counted = z .counted ∙ sym (mixed-counted W st b u m);
       }
 
