@@ -3,23 +3,23 @@ use mathlib.Core.Path.{_≡_, refl, ap, sym, _∙_}
 use mathlib.Core.Bool.{Bool, true, false, not, _&&_, true≢false, false≢true}
 use mathlib.Core.List.{List}
 use Prim.Native.Nat.{ℕ, suc, _+_, _*_, _-_, _^_, _≤_, _<_}
-use native.Mathlib.Nat.{lt-of-le-of-lt, lt-of-lt-of-le}
+use native.Mathlib.Nat.{le-refl, lt-of-le-of-lt, lt-of-lt-of-le}
 use native.Mathlib.Omega.{arith}
-use lib.Dec.{ltb}
 use lib.Bits.{bitAnd, and-le-l}
-use lib.Pow.{pow-mono, pow-pos, ones-lt}
-use borrow.Author.Tests.{lt-ltb, eq-eqb, not-false, le-leb}
+use lib.Pow.{pow-mono, pow-pos}
+use borrow.Author.Tests.{lt-ltb, eq-eqb, not-false}
 use Rattle.positions.specs.Positions.{Positions}
 use Rattle.positions.proofs.Ranges.{within-in}
 use Rattle.positions.specs.Walks.{Lacks}
 use Rattle.bits.specs.Bit.{bit, mask}
-use Rattle.bits.proofs.Bits.{bit-zero, bit-ones, bit-and, bit-not, bit-none, bit-all, bit-ext}
+use Rattle.bits.proofs.Bits.{bit-zero, bit-ones, bit-and, bit-not, bit-none, bit-all}
 use Rattle.bits.proofs.Words.{mask-lt, mask-at, mask-ext, mask-none, mask-all}
 use Rattle.range_bitset.specs.Layout.{blocks, wordsOf, at, nonzero, full, topNonzero, topFull}
 use Rattle.range_bitset.specs.Read.{ALL, stateOf}
 use Rattle.range_bitset.specs.Represents.{wordOf, anyWord, allWord, valid, nonzeroMask, fullMask, anyBlock, allBlock}
 use Rattle.range_bitset.specs.Inner.{Spans, Marks, wordStart, CandidateWords, CandidateBlocks}
 use Rattle.range_bitset.specs.declared.State.the-variants.{Empty, Mixed, Full}
+use Rattle.range_bitset.proofs.Masks.{spans-lt}
 use Rattle.range_bitset.proofs.Words.{valid-fits, word-lt, word-bit, word-all, word-none, clear-positions, full-positions, state-empty, state-full, state-masked}
 
 never : (v : Bool) → v ≡ not v → ⊥
@@ -182,11 +182,7 @@ module _ (W : ℕ) (s : Positions) (b : ℕ) where
 
 module _ (W : ℕ) (st : List ℕ) (c : W ≤ 4096) (m : ℕ) (f : m < 2 ^ 64) (k : Spans m 0 (blocks W)) where
   top-fits : (x : ℕ) → bitAnd m x < 2 ^ blocks W
-  top-fits x =
-      let n : blocks W ≤ 64 = omega arith in
-      let h : 2 ^ blocks W ≤ 2 ^ 64 = pow-mono n in
-      let e : m ≡ 2 ^ blocks W - 1 = bit-ext 64 m (2 ^ blocks W - 1) f (lt-of-lt-of-le (ones-lt (blocks W)) h) (λ i l. k i ∙ ap (λ (y : Bool). y && ltb i (blocks W)) (le-leb 0 i (omega arith)) ∙ sym (bit-ones (blocks W) i)) in
-      lt-of-le-of-lt (and-le-l m x) (omega (arith, e, ones-lt (blocks W)))
+  top-fits x = lt-of-le-of-lt (and-le-l m x) (spans-lt m 0 (blocks W) (blocks W) f k (le-refl (blocks W)))
 
   top-bit : (x b : ℕ) → b < blocks W → bit (bitAnd m x) b ≡ bit x b
   top-bit x b h = bit-and m x b ∙ ap (λ (y : Bool). y && bit x b) (k b ∙ within-in 0 (blocks W) b (omega arith) h)
