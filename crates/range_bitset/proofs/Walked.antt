@@ -115,6 +115,24 @@ mixed-row W st b j h =
     let e : (64 * b + j) % 64 ≡ j = omega arith in
     rw (d, e)
 
+-- any word, where its block is mixed
+pub mixed-lt : (W : ℕ) (st : List ℕ) → ((k : ℕ) → getD st k 0 < 2 ^ 64) → (k : ℕ) → mixedRead W st k < 2 ^ 64
+unfolding mixedRead
+mixed-lt W st known k = by (bit (at W st (full (k / 64))) (k % 64)) (bit (at W st (nonzero (k / 64))) (k % 64))
+  where
+    by : (f n : Bool) → cond f ALL (cond n (at W st (word k)) 0) < 2 ^ 64
+    by true n = omega arith
+    by false true = known k
+    by false false = omega arith
+
+-- word j of block b, by the block's state
+pub read-by : (W : ℕ) (st : List ℕ) (b : ℕ) (x : State) → stateOf W st b ≡ x → (j : ℕ) → j < 64
+    → wordRead W st (64 * b + j) ≡ byState x (mixedRead W st (64 * b + j))
+unfolding wordRead
+read-by W st b x e j h =
+    let d : (64 * b + j) / 64 ≡ b = omega arith in
+    ap (λ (y : State). byState y (mixedRead W st (64 * b + j))) (ap (stateOf W st) d ∙ e)
+
 ones-cond : (f n : Bool) (d : ℕ) → ones (cond f ALL (cond n d 0)) ≡ cond f 64 (cond n (ones d) 0)
 ones-cond true n d = ones-ones 64
 ones-cond false true d = refl
@@ -154,12 +172,7 @@ module _ (W : ℕ) (st : List ℕ) (b m : ℕ) (known : (k : ℕ) → getD st k 
   unfolding mixedCount
   mixed-most =
       over-bound (bit m) (λ j. ones (mixedRead W st (64 * b + j))) 64 0 64
-      (λ j p q. ones-le 64 _ (omega (arith, mixed-row W st b j q, most (bit (at W st (full b)) j) (bit (at W st (nonzero b)) j) (known (64 * b + j)))))
-    where
-      most : (f n : Bool) {d : ℕ} → d < 2 ^ 64 → cond f ALL (cond n d 0) < 2 ^ 64
-      most true n h = omega arith
-      most false true h = h
-      most false false h = omega arith
+      (λ j p q. ones-le 64 _ (mixed-lt W st known (64 * b + j)))
 
   -- by the masks at the slots f and n, and the block's words
   pub mixed-total : (f n w : ℕ) → f ≡ address W (full b) → n ≡ address W (nonzero b) → w ≡ wordsOf W b → m < 2 ^ wordsOf W b
@@ -186,12 +199,10 @@ module _ (W : ℕ) (st : List ℕ) (b m : ℕ) (known : (k : ℕ) → getD st k 
 
 module _ (W : ℕ) (st : List ℕ) (b m : ℕ) where
   by-state : (q : State) → stateOf W st b ≡ q → wordsCount W st b m ≡ sumOver (bit m) (λ j. ones (byState q (mixedRead W st (64 * b + j)))) 0 64
-  unfolding wordsCount wordRead
+  unfolding wordsCount
   by-state q e =
       over-terms (bit m) (λ j. ones (wordRead W st (64 * b + j))) (λ j. ones (byState q (mixedRead W st (64 * b + j)))) 0 64
-      (λ j p l g.
-      let d : (64 * b + j) / 64 ≡ b = omega arith in
-      ap (λ (x : State). ones (byState x (mixedRead W st (64 * b + j)))) (ap (stateOf W st) d ∙ e))
+      (λ j p l g. ap ones (read-by W st b q e j l))
 
   pub words-empty : stateOf W st b ≡ Empty → wordsCount W st b m ≡ 0
   words-empty e =

@@ -155,6 +155,13 @@ module _ (W : ℕ) (s : Positions) (b : ℕ) where
         let h = words-some W b l in
         ne-eqb (fullMask W s b) (valid W b) (λ z. omega arith)
 
+    -- a full block is no empty one
+    pub all-any-block : allBlock W s b ≡ true → anyBlock W s b ≡ true
+    all-any-block e =
+        let p = full-nonzero e in
+        let h = words-some W b l in
+        ap not (ne-eqb (nonzeroMask W s b) 0 (λ z. omega arith))
+
 -- ---- what a storage that holds the set reads
 
 module _ (W : ℕ) (st : List ℕ) (s : Positions) (o : ℕ → Bool) (h : Holds W st s o) where
