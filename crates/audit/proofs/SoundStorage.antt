@@ -18,7 +18,7 @@ use Rattle.audit.specs.Sound.{plain, SoundBlock, SoundStorage, Words}
 use Rattle.range_bitset.specs.declared.State.{State}
 use Rattle.range_bitset.specs.declared.State.the-variants.{Empty, Mixed, Full}
 use Rattle.range_bitset.proofs.Walked.{mixed-row, mixed-lt, read-by}
-use Rattle.range_bitset.proofs.Words.{all-any, in-word, in-block, none-all-block, all-any-block, state-mixed, state-masked, word-is}
+use Rattle.range_bitset.proofs.Words.{all-any, in-word, in-block, none-all-block, all-any-block, state-mixed, state-masked, full-bit, nonzero-bit, word-is}
 
 -- a state is mixed where the block has some and not all of its positions
 mixed-cond : (f n : Bool) → (n && not f) ≡ true → cond f Full (cond n Mixed Empty) ≡ Mixed
@@ -177,13 +177,13 @@ module _ (W : ℕ) (st : List ℕ) (s : Positions) (r : Stored W st s) where
         full-fits = subst (λ (x : ℕ). x < 2 ^ wordsOf W b) (sym f) (mask-lt (wordsOf W b) _);
         within-nonzero = λ j e.
             let p = mask-true (wordsOf W b) _ j (ap (λ (x : ℕ). bit x j) (sym f) ∙ e) in
-            ap (λ (x : ℕ). bit x j) n ∙ mask-at (wordsOf W b) _ j (p .0) ∙ all-any s _ (p .1);
+            nonzero-bit W st s closed r b j l (p .0) k ∙ all-any s _ (p .1);
         some = λ e. true≢false (sym (q .0) ∙ ap not (eq-eqb _ _ (sym n ∙ e)));
         not-all = λ e. true≢false (sym (eq-eqb _ _ (sym f ∙ e)) ∙ q .1);
         mixed-words = λ j h p t.
             let d : (64 * b + j) / 64 ≡ b = omega arith in
-            let y : allWord s (64 * b + j) ≡ false = sym (mask-at (wordsOf W b) _ j h) ∙ ap (λ (x : ℕ). bit x j) (sym f) ∙ p in
-            let z : anyWord s (64 * b + j) ≡ true = sym (mask-at (wordsOf W b) _ j h) ∙ ap (λ (x : ℕ). bit x j) (sym n) ∙ t in
+            let y : allWord s (64 * b + j) ≡ false = sym (full-bit W st s closed r b j l h k) ∙ p in
+            let z : anyWord s (64 * b + j) ≡ true = sym (nonzero-bit W st s closed r b j l h k) ∙ t in
             let w : at W st (word (64 * b + j)) ≡ wordOf s (64 * b + j) =
             r .stored (64 * b + j) (omega arith) (ap (masked W s closed) d ∙ k) z y in
             (λ e. true≢false (sym z ∙ ap not (eq-eqb _ _ (sym w ∙ e))), λ e. true≢false (sym (eq-eqb _ _ (sym w ∙ e)) ∙ y));

@@ -16,11 +16,11 @@ use Rattle.bits.proofs.Bits.{bit-zero, bit-ones, bit-and, bit-not, bit-none, bi
 use Rattle.bits.proofs.Words.{mask-lt, mask-at, mask-ext, mask-none, mask-all}
 use Rattle.range_bitset.specs.Layout.{blocks, wordsOf, at, nonzero, full, topNonzero, topFull}
 use Rattle.range_bitset.specs.Read.{ALL, stateOf}
-use Rattle.range_bitset.specs.Represents.{wordOf, anyWord, allWord, valid, nonzeroMask, fullMask, anyBlock, allBlock}
+use Rattle.range_bitset.specs.Represents.{wordOf, anyWord, allWord, valid, nonzeroMask, fullMask, anyBlock, allBlock, closed}
 use Rattle.range_bitset.specs.Inner.{Spans, Marks, wordStart, CandidateWords, CandidateBlocks}
 use Rattle.range_bitset.specs.declared.State.the-variants.{Empty, Mixed, Full}
 use Rattle.range_bitset.proofs.Masks.{spans-lt}
-use Rattle.range_bitset.proofs.Words.{valid-fits, word-lt, word-bit, word-all, word-none, clear-positions, full-positions, state-empty, state-full, state-masked}
+use Rattle.range_bitset.proofs.Words.{valid-fits, nonzero-bit, word-lt, word-bit, word-all, word-none, clear-positions, full-positions, state-empty, state-full, state-masked}
 
 never : (v : Bool) → v ≡ not v → ⊥
 never true e = true≢false e
@@ -132,7 +132,6 @@ module _ (W : ℕ) (st : List ℕ) (b : ℕ) (l : b < blocks W) where
         })
 
     pub mixed-ones : (v : Bool) (x : ℕ) → v ≡ true → stateOf W st b ≡ Mixed → at W st (nonzero b) ≡ x → CandidateWords W b v st (bitAnd m x)
-    unfolding nonzeroMask
     mixed-ones false x e w q = absurd (false≢true e)
     mixed-ones true x e w q =
         record {
@@ -140,8 +139,8 @@ module _ (W : ℕ) (st : List ℕ) (b : ℕ) (l : b < blocks W) where
           marks = λ s h.
               nonzero-marks W b s (bitAnd m x)
               (λ j u.
-              cut-bit m x j k u ∙ ap (λ (y : ℕ). bit y j) (sym q ∙ h .nonzeros b l (state-masked W st b l s h w))
-              ∙ mask-at (wordsOf W b) _ j u);
+              cut-bit m x j k u ∙ ap (λ (y : ℕ). bit y j) (sym q)
+              ∙ nonzero-bit W st s closed h b j l u (state-masked W st b l s h w));
         }
 
     pub mixed-zeros : (v : Bool) (x : ℕ) → v ≡ false → stateOf W st b ≡ Mixed → at W st (full b) ≡ x → CandidateWords W b v st (bitAnd m (ALL - x))

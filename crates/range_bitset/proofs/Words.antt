@@ -172,25 +172,25 @@ module _ (W : ℕ) (st : List ℕ) (s : Positions) (o : ℕ → Bool) (h : Holds
       (ap (λ (x : ℕ). bit x b) (h .top-full) ∙ mask-at (blocks W) _ b l)
       (ap (λ (x : ℕ). bit x b) (h .top-nonzero) ∙ mask-at (blocks W) _ b l)
 
+  -- a bit of a block's masks, where they are read
+  pub full-bit : (b j : ℕ) → b < blocks W → j < wordsOf W b → masked W s o b ≡ true → bit (at W st (full b)) j ≡ allWord s (64 * b + j)
+  unfolding fullMask
+  full-bit b j l u m = ap (λ (x : ℕ). bit x j) (h .fulls b l m) ∙ mask-at (wordsOf W b) _ j u
+
+  pub nonzero-bit : (b j : ℕ) → b < blocks W → j < wordsOf W b → masked W s o b ≡ true → bit (at W st (nonzero b)) j ≡ anyWord s (64 * b + j)
+  unfolding nonzeroMask
+  nonzero-bit b j l u m = ap (λ (x : ℕ). bit x j) (h .nonzeros b l m) ∙ mask-at (wordsOf W b) _ j u
+
   -- a word of a block whose masks are read
   pub mixed-is : (k : ℕ) → k < W → masked W s o (k / 64) ≡ true → mixedRead W st k ≡ wordOf s k
-  unfolding mixedRead fullMask nonzeroMask
+  unfolding mixedRead
   mixed-is k l m =
-      ap₂ (λ (x y : Bool). cond x ALL (cond y (at W st (word k)) 0)) f n ∙ by (allWord s k) refl (anyWord s k) refl
+      let i = in-block W k l in
+      ap₂ (λ (x y : Bool). cond x ALL (cond y (at W st (word k)) 0))
+      (full-bit (k / 64) (k % 64) (i .0) (i .1) m ∙ ap (allWord s) (i .2))
+      (nonzero-bit (k / 64) (k % 64) (i .0) (i .1) m ∙ ap (anyWord s) (i .2))
+      ∙ by (allWord s k) refl (anyWord s k) refl
     where
-      i : (k / 64 < blocks W) × (k % 64 < wordsOf W (k / 64)) × (64 * (k / 64) + k % 64 ≡ k)
-      i = in-block W k l
-
-      f : bit (at W st (full (k / 64))) (k % 64) ≡ allWord s k
-      f =
-          ap (λ (x : ℕ). bit x (k % 64)) (h .fulls (k / 64) (i .0) m) ∙ mask-at (wordsOf W (k / 64)) _ (k % 64) (i .1)
-          ∙ ap (allWord s) (i .2)
-
-      n : bit (at W st (nonzero (k / 64))) (k % 64) ≡ anyWord s k
-      n =
-          ap (λ (x : ℕ). bit x (k % 64)) (h .nonzeros (k / 64) (i .0) m) ∙ mask-at (wordsOf W (k / 64)) _ (k % 64) (i .1)
-          ∙ ap (anyWord s) (i .2)
-
       by : (a : Bool) → allWord s k ≡ a → (e : Bool) → anyWord s k ≡ e → cond a ALL (cond e (at W st (word k)) 0) ≡ wordOf s k
       by true p e q = sym (eqb-true _ _ p)
       by false p true q = h .stored k l m q p
