@@ -10,7 +10,7 @@ use borrow.Author.Tests.{eq-eqb, ne-eqb}
 use Rattle.positions.specs.Positions.{Positions}
 use Rattle.positions.proofs.Counts.{count-same}
 use Rattle.bits.specs.Bit.{bit}
-use Rattle.bits.proofs.Words.{mask-lt, mask-at, mask-true, mask-ext, mask-of, mask-none, mask-all}
+use Rattle.bits.proofs.Words.{mask-lt, mask-at, mask-true, mask-of}
 use Rattle.range_bitset.specs.Layout.{blocks, wordsOf, at, word, nonzero, full, topNonzero, topFull}
 use Rattle.range_bitset.specs.Read.{ALL, stateOf, mixedRead, wordRead, byState}
 use Rattle.range_bitset.specs.Represents.{wordOf, anyWord, allWord, nonzeroMask, fullMask, blockCount, anyBlock, allBlock, closed, masked, Stored}
@@ -18,7 +18,7 @@ use Rattle.audit.specs.Sound.{plain, SoundBlock, SoundStorage, Words}
 use Rattle.range_bitset.specs.declared.State.{State}
 use Rattle.range_bitset.specs.declared.State.the-variants.{Empty, Mixed, Full}
 use Rattle.range_bitset.proofs.Walked.{mixed-row, mixed-lt, read-by}
-use Rattle.range_bitset.proofs.Words.{all-any, in-word, in-block, none-all-block, all-any-block, state-mixed, state-masked, full-bit, nonzero-bit, word-is}
+use Rattle.range_bitset.proofs.Words.{all-any, in-word, in-block, block-none, block-all, none-all-block, all-any-block, state-mixed, state-masked, full-bit, nonzero-bit, word-is}
 
 -- a state is mixed where the block has some and not all of its positions
 mixed-cond : (f n : Bool) → (n && not f) ≡ true → cond f Full (cond n Mixed Empty) ≡ Mixed
@@ -106,15 +106,10 @@ module _ (W : ℕ) (st : List ℕ) (u : Words st) where
 
     -- the truths of a block, by its state
     full-state : stateOf W st b ≡ Full → allBlock W (plain W st) b ≡ true
-    unfolding fullMask
-    full-state m =
-        eq-eqb _ _ (mask-ext (wordsOf W b) _ (λ j. true) (λ j h. eq-eqb _ _ (word-by Full m j h)) ∙ mask-all (wordsOf W b))
+    full-state m = block-all W (plain W st) b (word-by Full m)
 
     empty-state : stateOf W st b ≡ Empty → anyBlock W (plain W st) b ≡ false
-    unfolding nonzeroMask
-    empty-state m =
-        ap not
-        (eq-eqb _ _ (mask-ext (wordsOf W b) _ (λ j. false) (λ j h. ap not (eq-eqb _ _ (word-by Empty m j h))) ∙ mask-none (wordsOf W b)))
+    empty-state m = block-none W (plain W st) b (word-by Empty m)
 
     -- a top bit is the truth that it stands for
     truths : (bit (at W st topNonzero) b ≡ anyBlock W (plain W st) b) × (bit (at W st topFull) b ≡ allBlock W (plain W st) b)

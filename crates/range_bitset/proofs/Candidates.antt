@@ -13,14 +13,14 @@ use Rattle.positions.proofs.Ranges.{within-in}
 use Rattle.positions.specs.Walks.{Lacks}
 use Rattle.bits.specs.Bit.{bit, mask}
 use Rattle.bits.proofs.Bits.{bit-zero, bit-ones, bit-and, bit-not, bit-none, bit-all}
-use Rattle.bits.proofs.Words.{mask-lt, mask-at, mask-ext, mask-none, mask-all}
+use Rattle.bits.proofs.Words.{mask-lt, mask-at}
 use Rattle.range_bitset.specs.Layout.{blocks, wordsOf, at, nonzero, full, topNonzero, topFull}
 use Rattle.range_bitset.specs.Read.{ALL, stateOf}
-use Rattle.range_bitset.specs.Represents.{wordOf, anyWord, allWord, valid, nonzeroMask, fullMask, anyBlock, allBlock, closed}
+use Rattle.range_bitset.specs.Represents.{wordOf, anyWord, allWord, valid, fullMask, anyBlock, allBlock, closed}
 use Rattle.range_bitset.specs.Inner.{Spans, Marks, wordStart, CandidateWords, CandidateBlocks}
 use Rattle.range_bitset.specs.declared.State.the-variants.{Empty, Mixed, Full}
 use Rattle.range_bitset.proofs.Masks.{spans-lt}
-use Rattle.range_bitset.proofs.Words.{valid-fits, nonzero-bit, word-lt, word-bit, word-all, word-none, clear-positions, full-positions, state-empty, state-full, state-masked}
+use Rattle.range_bitset.proofs.Words.{valid-fits, nonzero-bit, word-lt, word-bit, word-all, word-none, block-none, block-all, clear-positions, full-positions, state-empty, state-full, state-masked}
 
 never : (v : Bool) → v ≡ not v → ⊥
 never true e = true≢false e
@@ -163,21 +163,10 @@ module _ (W : ℕ) (st : List ℕ) (b : ℕ) (l : b < blocks W) where
 
 module _ (W : ℕ) (s : Positions) (b : ℕ) where
   pub lacks-any : Lacks s true (4096 * b) (4096 * b + 64 * wordsOf W b) → anyBlock W s b ≡ false
-  unfolding nonzeroMask
-  lacks-any h =
-      ap not
-      (eq-eqb (nonzeroMask W s b) 0
-      (mask-ext (wordsOf W b) _ (λ j. false)
-      (λ j u. ap not (eq-eqb (wordOf s (64 * b + j)) 0 (lacks-clear s (64 * b + j) (λ i p q. h i (omega arith) (omega arith)))))
-      ∙ mask-none (wordsOf W b)))
+  lacks-any h = block-none W s b (λ j u. lacks-clear s (64 * b + j) (λ i p q. h i (omega arith) (omega arith)))
 
   pub lacks-all : Lacks s false (4096 * b) (4096 * b + 64 * wordsOf W b) → allBlock W s b ≡ true
-  unfolding fullMask
-  lacks-all h =
-      eq-eqb (fullMask W s b) (valid W b)
-      (mask-ext (wordsOf W b) _ (λ j. true)
-      (λ j u. eq-eqb (wordOf s (64 * b + j)) ALL (lacks-full s (64 * b + j) (λ i p q. h i (omega arith) (omega arith))))
-      ∙ mask-all (wordsOf W b))
+  lacks-all h = block-all W s b (λ j u. lacks-full s (64 * b + j) (λ i p q. h i (omega arith) (omega arith)))
 
 module _ (W : ℕ) (st : List ℕ) (c : W ≤ 4096) (m : ℕ) (f : m < 2 ^ 64) (k : Spans m 0 (blocks W)) where
   top-fits : (x : ℕ) → bitAnd m x < 2 ^ blocks W

@@ -9,7 +9,7 @@ use native.Mathlib.Omega.{arith}
 use lib.Dec.{ltb}
 use lib.Count.{ones}
 use lib.Pow.{pow-mono, pow-pos}
-use borrow.Author.Tests.{lt-ltb, ne-eqb, eqb-true, not-false}
+use borrow.Author.Tests.{lt-ltb, eq-eqb, ne-eqb, eqb-true, not-false}
 use Rattle.positions.specs.Positions.{Positions, count, countFrom}
 use Rattle.positions.proofs.Counts.{countFrom-shift, count-from, count-none, count-all, count-le}
 use Rattle.bits.specs.Bit.{bit}
@@ -100,6 +100,15 @@ module _ (W : ℕ) (s : Positions) (b : ℕ) where
   clear-words e j h =
       sym (mask-at (wordsOf W b) (λ i. anyWord s (64 * b + i)) j h)
       ∙ ap (λ (x : ℕ). bit x j) (eqb-true _ _ (not-false _ e)) ∙ bit-zero j
+
+  -- and back: all its words are 0, or all ones
+  pub block-none : ((j : ℕ) → j < wordsOf W b → wordOf s (64 * b + j) ≡ 0) → anyBlock W s b ≡ false
+  unfolding nonzeroMask
+  block-none h = ap not (eq-eqb _ _ (mask-ext (wordsOf W b) _ (λ j. false) (λ j l. ap not (eq-eqb _ _ (h j l))) ∙ mask-none (wordsOf W b)))
+
+  pub block-all : ((j : ℕ) → j < wordsOf W b → wordOf s (64 * b + j) ≡ ALL) → allBlock W s b ≡ true
+  unfolding fullMask
+  block-all h = eq-eqb _ _ (mask-ext (wordsOf W b) _ (λ j. true) (λ j l. eq-eqb _ _ (h j l)) ∙ mask-all (wordsOf W b))
 
   -- the positions of a block whose words all read the same
   positions : (w : ℕ) (v : Bool) → ((i : ℕ) → i < 64 → bit w i ≡ v) → ((j : ℕ) → j < wordsOf W b → wordOf s (64 * b + j) ≡ w)
