@@ -1,23 +1,23 @@
 -- What the audit tells of one block: its masks, its stored words, its population. One law for each return of the functions
 -- that look at a block. Assumes nothing.
-use mathlib.Core.Path.{_≡_, refl, ap, sym, _∙_, subst, ap₂}
+use mathlib.Core.Path.{_≡_, refl, ap, sym, _∙_, ap₂}
 use mathlib.Core.Logic.{_≢_}
 use mathlib.Core.Bool.{Bool, true, false, not, _&&_, true≢false, false≢true}
 use mathlib.Core.List.{List}
 use Prim.Native.Nat.{ℕ, suc, zero-le, _+_, _*_, _-_, _/_, _%_, _^_, _≤_, _<_}
-use native.Mathlib.Nat.{lt-of-le-of-lt, mod-lt, mod-le}
+use native.Mathlib.Nat.{lt-of-le-of-lt}
 use native.Mathlib.Omega.{arith}
 use lib.Bits.{bitAnd, and-le-l}
 use lib.Count.{ones, trailingZeros}
 use lib.Dec.{eqb, ltb}
 use lib.ListN.{length, getD}
-use lib.Pow.{pow-pos}
+use lib.Pow.{ones-lt}
 use borrow.Author.Tests.{le-leb, eqb-true, eqb-false, lt-ltb, ltb-true, not-true, not-false}
 use Rattle.positions.specs.Positions.{count}
 use Rattle.positions.proofs.Bools.{and-left, and-right}
 use Rattle.positions.proofs.Counts.{count-none, count-all}
 use Rattle.bits.specs.Bit.{bit}
-use Rattle.bits.proofs.Bits.{bit-zero, bit-and, bit-ones, bit-mod, bit-ext, bit-none}
+use Rattle.bits.proofs.Bits.{bit-zero, bit-and, bit-below, bits-fit, bit-ones, bit-none}
 use Rattle.bits.proofs.Masks.{bit-without}
 use Rattle.bits.proofs.Ones.{tz-set, bit-drop-lowest}
 use Rattle.range_bitset.specs.Layout.{blocks, wordsOf, at, nonzero, full}
@@ -32,9 +32,9 @@ use Rattle.range_bitset.specs.declared.ShownBlock.{ShownBlock}
 use Rattle.range_bitset.specs.declared.ShownBlock.the-variants as block
 use Rattle.range_bitset.specs.declared.State.{State}
 use Rattle.range_bitset.specs.declared.State.the-variants.{Empty, Mixed, Full}
-use Rattle.range_bitset.proofs.Walked.{below-of}
+use Rattle.range_bitset.proofs.Walked.{read-by}
 use Rattle.range_bitset.proofs.Words.{word-ones}
-use Rattle.audit.proofs.SoundStorage.{plain-word, read-by}
+use Rattle.audit.proofs.SoundStorage.{plain-word}
 use Rattle.range_bitset.proofs.Populations.{masked-rows}
 
 -- ---- answers that tell
@@ -71,21 +71,6 @@ within-told a b ha hb =
     bit-none 64 (bitAnd a ((2 ^ 64 - 1) - b)) (lt-of-le-of-lt (and-le-l a ((2 ^ 64 - 1) - b)) ha)
     (λ j l. bit-without 64 a b j ha hb ∙ zero-without (bit a j) (bit b j) (f j)))
 
--- a word whose bits all lie below n
-fits-below : (n x : ℕ) → x < 2 ^ 64 → ((j : ℕ) → bit x j ≡ true → ltb j n ≡ true) → x < 2 ^ n
-fits-below n x h f = subst (λ (y : ℕ). y < 2 ^ n) (sym e) (mod-lt x (pow-pos n))
-  where
-    low : (j : ℕ) (b : Bool) → bit x j ≡ b → (ltb j n && b) ≡ b
-    low j true p = ap (λ (y : Bool). y && true) (f j p)
-    low j false p = both (ltb j n)
-      where
-        both : (y : Bool) → (y && false) ≡ false
-        both true = refl
-        both false = refl
-
-    e : x ≡ x % 2 ^ n
-    e = bit-ext 64 x (x % 2 ^ n) h (lt-of-le-of-lt (mod-le x (2 ^ n)) h) (λ j l. sym (bit-mod n x j ∙ low j (bit x j) refl))
-
 -- a bit past those that there are; else the two masks tell
 pub masks-over : {r : Bool} (any all valid : ℕ) → Tells r ((j : ℕ) → bit any j ≡ true → bit valid j ≡ true) → r ≡ false
     → Tells false (SoundMasks any all valid)
@@ -98,11 +83,14 @@ masks-told any all valid t e u = told-as u (λ f. record { fits = t .yes e; with
 -- sound masks of n words or blocks: both lie below 2 ^ n
 pub masks-fit : (n any all : ℕ) → any < 2 ^ 64 → all < 2 ^ 64 → SoundMasks any all (2 ^ n - 1) → (any < 2 ^ n) × (all < 2 ^ n)
 masks-fit n any all ha hb z =
-    (fits-below n any ha (λ j p. sym (bit-ones n j) ∙ z .fits j p), fits-below n all hb (λ j p. sym (bit-ones n j) ∙ z .fits j (z .within-nonzero j p)))
+    (bits-fit 64 n any ha (λ j p. below j (z .fits j p)), bits-fit 64 n all hb (λ j p. below j (z .fits j (z .within-nonzero j p))))
+  where
+    below : (j : ℕ) → bit (2 ^ n - 1) j ≡ true → j < n
+    below j e = bit-below n (2 ^ n - 1) j (ones-lt n) e
 
 pub fit-masks : (n any all : ℕ) → any < 2 ^ n → ((j : ℕ) → bit all j ≡ true → bit any j ≡ true) → SoundMasks any all (2 ^ n - 1)
 fit-masks n any all h f =
-    record { fits = λ j p. bit-ones n j ∙ lt-ltb j n (below-of any n j h p); within-nonzero = f }
+    record { fits = λ j p. bit-ones n j ∙ lt-ltb j n (bit-below n any j h p); within-nonzero = f }
 
 -- ---- the walk over a block's stored words
 
@@ -234,7 +222,7 @@ module _ (W : ℕ) (st : List ℕ) (b : ℕ) (u : Words st) (m : stateOf W st b 
             let a = sym (stored-bit j) ∙ p in
             let n : bit (at W st (nonzero b)) j ≡ true = and-left (bit (at W st (nonzero b)) j) (not (bit (at W st (full b)) j)) a in
             let g : bit (at W st (full b)) j ≡ false = not-true _ (and-right (bit (at W st (nonzero b)) j) (not (bit (at W st (full b)) j)) a) in
-            z .mixed-words j (below-of (at W st (nonzero b)) (wordsOf W b) j (z .nonzero-fits) n) g n;
+            z .mixed-words j (bit-below (wordsOf W b) (at W st (nonzero b)) j (z .nonzero-fits) n) g n;
         counted = z .counted ∙ sym (mixed-counted W st b u m);
       }
 

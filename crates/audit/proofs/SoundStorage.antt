@@ -5,74 +5,38 @@ use mathlib.Core.Bool.{Bool, true, false, not, _&&_, cond, true≢false, false�
 use mathlib.Core.List.{List}
 use Prim.Native.Nat.{ℕ, _+_, _*_, _/_, _%_, _^_, _<_}
 use native.Mathlib.Omega.{arith}
-use lib.Dec.{eqb, ltb}
-use borrow.Author.Tests.{eq-eqb, ne-eqb, ltb-true}
+use lib.Dec.{eqb}
+use borrow.Author.Tests.{eq-eqb, ne-eqb}
 use Rattle.positions.specs.Positions.{Positions}
-use Rattle.positions.proofs.Bools.{and-left, and-right}
 use Rattle.positions.proofs.Counts.{count-same}
-use Rattle.bits.specs.Bit.{bit, mask}
-use Rattle.bits.proofs.Words.{mask-lt, mask-bit, mask-at, mask-ext, mask-of, mask-none, mask-all}
+use Rattle.bits.specs.Bit.{bit}
+use Rattle.bits.proofs.Words.{mask-lt, mask-at, mask-true, mask-of}
 use Rattle.range_bitset.specs.Layout.{blocks, wordsOf, at, word, nonzero, full, topNonzero, topFull}
 use Rattle.range_bitset.specs.Read.{ALL, stateOf, mixedRead, wordRead, byState}
 use Rattle.range_bitset.specs.Represents.{wordOf, anyWord, allWord, nonzeroMask, fullMask, blockCount, anyBlock, allBlock, closed, masked, Stored}
 use Rattle.audit.specs.Sound.{plain, SoundBlock, SoundStorage, Words}
 use Rattle.range_bitset.specs.declared.State.{State}
 use Rattle.range_bitset.specs.declared.State.the-variants.{Empty, Mixed, Full}
-use Rattle.range_bitset.proofs.Words.{all-any, in-word, in-block, words-some, full-nonzero, none-all-block, state-is, word-is}
+use Rattle.range_bitset.proofs.Walked.{mixed-row, mixed-lt, read-by}
+use Rattle.range_bitset.proofs.Words.{all-any, in-word, in-block, block-none, block-all, none-all-block, all-any-block, state-mixed, state-masked, full-bit, nonzero-bit, word-is}
 
-cond-lt : (a : Bool) (x y n : ℕ) → x < n → y < n → cond a x y < n
-cond-lt true x y n p q = p
-cond-lt false x y n p q = q
-
--- a state is mixed where the block has some and not all of its positions, and only there
-pub mixed-cond : (f n : Bool) → (n && not f) ≡ true → cond f Full (cond n Mixed Empty) ≡ Mixed
+-- a state is mixed where the block has some and not all of its positions
+mixed-cond : (f n : Bool) → (n && not f) ≡ true → cond f Full (cond n Mixed Empty) ≡ Mixed
 mixed-cond true true e = absurd (false≢true e)
 mixed-cond true false e = absurd (false≢true e)
 mixed-cond false true e = refl
 mixed-cond false false e = absurd (false≢true e)
 
-code : State → ℕ
-code Empty = 0
-code Mixed = 1
-code Full = 2
-
-pub cond-mixed : (f n : Bool) → cond f Full (cond n Mixed Empty) ≡ Mixed → (n ≡ true) × (f ≡ false)
-unfolding code
-cond-mixed true n e = let z : _≡_ {A = ℕ} 2 1 = ap code e in absurd (omega arith)
-cond-mixed false true e = (refl, refl)
-cond-mixed false false e = let z : _≡_ {A = ℕ} 0 1 = ap code e in absurd (omega arith)
-
--- a full block is no empty one
-all-any-block : (W : ℕ) (s : Positions) (b : ℕ) → b < blocks W → allBlock W s b ≡ true → anyBlock W s b ≡ true
-all-any-block W s b l e =
-    let p = full-nonzero W s b e in
-    let h = words-some W b l in
-    ap not (ne-eqb (nonzeroMask W s b) 0 (λ z. omega arith))
-
 -- ---- the words that a storage reads
 
--- a word of block b, by the block's state
-pub read-by : (W : ℕ) (st : List ℕ) (b : ℕ) (x : State) → stateOf W st b ≡ x → (j : ℕ) → j < 64
-    → wordRead W st (64 * b + j) ≡ byState x (mixedRead W st (64 * b + j))
-unfolding wordRead
-read-by W st b x e j h =
-    let d : (64 * b + j) / 64 ≡ b = omega arith in
-    ap (λ (y : State). byState y (mixedRead W st (64 * b + j))) (ap (stateOf W st) d ∙ e)
-
 module _ (W : ℕ) (st : List ℕ) (u : Words st) where
-  mixed-lt : (k : ℕ) → mixedRead W st k < 2 ^ 64
-  unfolding mixedRead
-  mixed-lt k =
-      cond-lt (bit (at W st (full (k / 64))) (k % 64)) ALL _ (2 ^ 64) (omega arith)
-      (cond-lt (bit (at W st (nonzero (k / 64))) (k % 64)) (at W st (word k)) 0 (2 ^ 64) (u k) (omega arith))
-
   pub read-lt : (k : ℕ) → wordRead W st k < 2 ^ 64
   unfolding wordRead
   read-lt k = by (stateOf W st (k / 64))
     where
       by : (x : State) → byState x (mixedRead W st k) < 2 ^ 64
       by Empty = omega arith
-      by Mixed = mixed-lt k
+      by Mixed = mixed-lt W st u k
       by Full = omega arith
 
   -- the words of the set that is read are the words that are read
@@ -102,12 +66,7 @@ module _ (W : ℕ) (st : List ℕ) (u : Words st) where
       mixed-by : (j : ℕ) → j < wordsOf W b
           → wordOf (plain W st) (64 * b + j)
           ≡ cond (bit (at W st (full b)) j) ALL (cond (bit (at W st (nonzero b)) j) (at W st (word (64 * b + j))) 0)
-      unfolding mixedRead
-      mixed-by j h =
-          let d : (64 * b + j) / 64 ≡ b = omega arith in
-          let q : (64 * b + j) % 64 ≡ j = omega arith in
-          word-by Mixed m j h
-          ∙ ap₂ (λ (x y : ℕ). cond (bit (at W st (full x)) y) ALL (cond (bit (at W st (nonzero x)) y) (at W st (word (64 * b + j))) 0)) d q
+      mixed-by j h = word-by Mixed m j h ∙ mixed-row W st b j (omega arith)
 
       any-by : (j : ℕ) → j < wordsOf W b → bit (at W st (nonzero b)) j ≡ anyWord (plain W st) (64 * b + j)
       unfolding z
@@ -147,15 +106,10 @@ module _ (W : ℕ) (st : List ℕ) (u : Words st) where
 
     -- the truths of a block, by its state
     full-state : stateOf W st b ≡ Full → allBlock W (plain W st) b ≡ true
-    unfolding fullMask
-    full-state m =
-        eq-eqb _ _ (mask-ext (wordsOf W b) _ (λ j. true) (λ j h. eq-eqb _ _ (word-by Full m j h)) ∙ mask-all (wordsOf W b))
+    full-state m = block-all W (plain W st) b (word-by Full m)
 
     empty-state : stateOf W st b ≡ Empty → anyBlock W (plain W st) b ≡ false
-    unfolding nonzeroMask
-    empty-state m =
-        ap not
-        (eq-eqb _ _ (mask-ext (wordsOf W b) _ (λ j. false) (λ j h. ap not (eq-eqb _ _ (word-by Empty m j h))) ∙ mask-none (wordsOf W b)))
+    empty-state m = block-none W (plain W st) b (word-by Empty m)
 
     -- a top bit is the truth that it stands for
     truths : (bit (at W st topNonzero) b ≡ anyBlock W (plain W st) b) × (bit (at W st topFull) b ≡ allBlock W (plain W st) b)
@@ -204,20 +158,11 @@ module _ (W : ℕ) (st : List ℕ) (u : Words st) where
 
 -- ---- and back, from any set
 
-mask-true : (n : ℕ) (f : Positions) (j : ℕ) → bit (mask n f) j ≡ true → (j < n) × (f j ≡ true)
-mask-true n f j e =
-    let p = sym (mask-bit n f j) ∙ e in
-    (ltb-true j n (and-left (ltb j n) (f j) p), and-right (ltb j n) (f j) p)
-
 module _ (W : ℕ) (st : List ℕ) (s : Positions) (r : Stored W st s) where
   -- the set that it holds is the one that its words read
   pub stored-plain : (i : ℕ) → i < 64 * W → plain W st i ≡ s i
   unfolding plain
   stored-plain i h = ap (λ (x : ℕ). bit x (i % 64)) (word-is W st s closed r (i / 64) (omega arith)) ∙ in-word s i
-
-  -- a mixed block has some and not all of its positions
-  pub stored-mixed : (b : ℕ) → b < blocks W → stateOf W st b ≡ Mixed → (anyBlock W s b ≡ true) × (allBlock W s b ≡ false)
-  stored-mixed b l m = cond-mixed (allBlock W s b) (anyBlock W s b) (sym (state-is W st s closed r b l) ∙ m)
 
   sound-block : (b : ℕ) → b < blocks W → stateOf W st b ≡ Mixed → SoundBlock W st b
   unfolding nonzeroMask fullMask blockCount
@@ -227,13 +172,13 @@ module _ (W : ℕ) (st : List ℕ) (s : Positions) (r : Stored W st s) where
         full-fits = subst (λ (x : ℕ). x < 2 ^ wordsOf W b) (sym f) (mask-lt (wordsOf W b) _);
         within-nonzero = λ j e.
             let p = mask-true (wordsOf W b) _ j (ap (λ (x : ℕ). bit x j) (sym f) ∙ e) in
-            ap (λ (x : ℕ). bit x j) n ∙ mask-at (wordsOf W b) _ j (p .0) ∙ all-any s _ (p .1);
+            nonzero-bit W st s closed r b j l (p .0) k ∙ all-any s _ (p .1);
         some = λ e. true≢false (sym (q .0) ∙ ap not (eq-eqb _ _ (sym n ∙ e)));
         not-all = λ e. true≢false (sym (eq-eqb _ _ (sym f ∙ e)) ∙ q .1);
         mixed-words = λ j h p t.
             let d : (64 * b + j) / 64 ≡ b = omega arith in
-            let y : allWord s (64 * b + j) ≡ false = sym (mask-at (wordsOf W b) _ j h) ∙ ap (λ (x : ℕ). bit x j) (sym f) ∙ p in
-            let z : anyWord s (64 * b + j) ≡ true = sym (mask-at (wordsOf W b) _ j h) ∙ ap (λ (x : ℕ). bit x j) (sym n) ∙ t in
+            let y : allWord s (64 * b + j) ≡ false = sym (full-bit W st s closed r b j l h k) ∙ p in
+            let z : anyWord s (64 * b + j) ≡ true = sym (nonzero-bit W st s closed r b j l h k) ∙ t in
             let w : at W st (word (64 * b + j)) ≡ wordOf s (64 * b + j) =
             r .stored (64 * b + j) (omega arith) (ap (masked W s closed) d ∙ k) z y in
             (λ e. true≢false (sym z ∙ ap not (eq-eqb _ _ (sym w ∙ e))), λ e. true≢false (sym (eq-eqb _ _ (sym w ∙ e)) ∙ y));
@@ -241,10 +186,10 @@ module _ (W : ℕ) (st : List ℕ) (s : Positions) (r : Stored W st s) where
       }
     where
       q : (anyBlock W s b ≡ true) × (allBlock W s b ≡ false)
-      q = stored-mixed b l m
+      q = state-mixed W st b l s r m
 
       k : masked W s closed b ≡ true
-      k = ap₂ (λ (x y : Bool). x && not y) (q .0) (q .1)
+      k = state-masked W st b l s r m
 
       n : at W st (nonzero b) ≡ nonzeroMask W s b
       n = r .nonzeros b l k

@@ -10,7 +10,6 @@ use Rattle.positions.specs.Positions.{Positions, count}
 use Rattle.positions.proofs.Bools.{and-left, and-right}
 use Rattle.positions.proofs.Counts.{count-none, count-same}
 use Rattle.bits.specs.Bit.{bit, mask}
-use Rattle.bits.proofs.Words.{mask-at}
 use Rattle.range_bitset.specs.Layout.{blocks, wordsOf, Slot, at, word, nonzero, full, population, topNonzero, topFull}
 use Rattle.range_bitset.specs.Read.{stateOf}
 use Rattle.range_bitset.specs.Represents.{wordOf, anyWord, allWord, nonzeroMask, fullMask, blockCount, anyBlock, allBlock, closed, masked, Stored, Represents, capacityOf}
@@ -18,7 +17,7 @@ use Rattle.audit.specs.Sound.{plain, has, Sound, Words, isMixed, live}
 use Rattle.range_bitset.specs.Inner.{In}
 use Rattle.range_bitset.specs.declared.RangeBitset.{RangeBitset}
 use Rattle.range_bitset.specs.declared.State.the-variants.{Empty, Mixed, Full}
-use Rattle.range_bitset.proofs.Words.{in-block, state-is}
+use Rattle.range_bitset.proofs.Words.{in-block, state-is, full-bit, nonzero-bit}
 use Rattle.audit.proofs.SoundStorage.{sound-stored, stored-sound, stored-plain}
 
 -- ---- sound exactly when represented
@@ -87,8 +86,8 @@ valueOf W s topNonzero = mask (blocks W) (anyBlock W s)
 valueOf W s topFull = mask (blocks W) (allBlock W s)
 
 module _ (W : ℕ) (st : List ℕ) (s : Positions) (r : Stored W st s) where
-  mixed-is : (b : ℕ) → b < blocks W → isMixed (stateOf W st b) ≡ masked W s closed b
-  mixed-is b l = ap isMixed (state-is W st s closed r b l) ∙ by (allBlock W s b) (anyBlock W s b)
+  mixed-masked : (b : ℕ) → b < blocks W → isMixed (stateOf W st b) ≡ masked W s closed b
+  mixed-masked b l = ap isMixed (state-is W st s closed r b l) ∙ by (allBlock W s b) (anyBlock W s b)
     where
       by : (f n : Bool) → isMixed (cond f Full (cond n Mixed Empty)) ≡ (n && not f)
       by true true = refl
@@ -97,7 +96,7 @@ module _ (W : ℕ) (st : List ℕ) (s : Positions) (r : Stored W st s) where
       by false false = refl
 
   word-live : (k : ℕ) → k < W → live W st (word k) ≡ liveOf W s (word k)
-  unfolding liveOf nonzeroMask fullMask
+  unfolding liveOf
   word-live k h = by (masked W s closed (k / 64)) refl
     where
       i : (k / 64 < blocks W) × (k % 64 < wordsOf W (k / 64)) × (64 * (k / 64) + k % 64 ≡ k)
@@ -106,20 +105,20 @@ module _ (W : ℕ) (st : List ℕ) (s : Positions) (r : Stored W st s) where
       by : (m : Bool) → masked W s closed (k / 64) ≡ m → live W st (word k) ≡ (m && (not (allWord s k) && anyWord s k))
       by false e =
           ap (λ (x : Bool). x && (not (bit (at W st (full (k / 64))) (k % 64)) && bit (at W st (nonzero (k / 64))) (k % 64)))
-          (mixed-is (k / 64) (i .0) ∙ e)
+          (mixed-masked (k / 64) (i .0) ∙ e)
       by true e =
           ap (λ (x : Bool). x && (not (bit (at W st (full (k / 64))) (k % 64)) && bit (at W st (nonzero (k / 64))) (k % 64)))
-          (mixed-is (k / 64) (i .0) ∙ e)
+          (mixed-masked (k / 64) (i .0) ∙ e)
           ∙ ap₂ (λ (x y : Bool). not x && y)
-          (ap (λ (x : ℕ). bit x (k % 64)) (r .fulls (k / 64) (i .0) e) ∙ mask-at (wordsOf W (k / 64)) _ (k % 64) (i .1) ∙ ap (allWord s) (i .2))
-          (ap (λ (x : ℕ). bit x (k % 64)) (r .nonzeros (k / 64) (i .0) e) ∙ mask-at (wordsOf W (k / 64)) _ (k % 64) (i .1) ∙ ap (anyWord s) (i .2))
+          (full-bit W st s closed r (k / 64) (k % 64) (i .0) (i .1) e ∙ ap (allWord s) (i .2))
+          (nonzero-bit W st s closed r (k / 64) (k % 64) (i .0) (i .1) e ∙ ap (anyWord s) (i .2))
 
   pub live-is : (t : Slot) → In W t → live W st t ≡ liveOf W s t
   unfolding liveOf
   live-is (word k) i = word-live k i
-  live-is (nonzero b) i = mixed-is b i
-  live-is (full b) i = mixed-is b i
-  live-is (population b) i = mixed-is b i
+  live-is (nonzero b) i = mixed-masked b i
+  live-is (full b) i = mixed-masked b i
+  live-is (population b) i = mixed-masked b i
   live-is topNonzero i = refl
   live-is topFull i = refl
 

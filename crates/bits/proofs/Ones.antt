@@ -3,7 +3,7 @@ use mathlib.Core.Path.{_≡_, refl, sym, ap, ap₂, _∙_, subst}
 use mathlib.Core.Logic.{_≢_}
 use mathlib.Core.Bool.{Bool, true, false, not, _&&_, and-true, and-self}
 use Prim.Native.Nat.{ℕ, zero, suc, _+_, _-_, _*_, _/_, _%_, _^_, _<_}
-use native.Mathlib.Nat.{le-refl, le-of-suc-le-suc, not-suc-le-zero, zero-lt-suc, mod-lt, div-add-mod', pow-suc, pos-of-ne-zero, lt-irrefl}
+use native.Mathlib.Nat.{le-refl, le-of-suc-le-suc, not-suc-le-zero, mod-lt, div-add-mod', pow-suc, pos-of-ne-zero, lt-irrefl}
 use native.Mathlib.Decide.{decLt}
 use native.Mathlib.Numerals.{one-add}
 use native.Mathlib.Omega.{arith}
@@ -14,11 +14,8 @@ use lib.Bits.{bitAnd, and-le-r}
 use lib.Count.{ones, ones-step, ones-le, trailingZeros, trailing-le, under}
 use Rattle.bits.specs.Bit.{bit}
 use Rattle.positions.specs.Positions.{kept, countFrom}
-use Rattle.bits.proofs.Bits.{bit-0, bit-suc, bit-and, bit-none}
+use Rattle.bits.proofs.Bits.{two-pos, bit-0, bit-suc, bit-and, bit-none}
 use Rattle.positions.proofs.Counts.{countFrom-zero, countFrom-first, countFrom-shift, countFrom-ext}
-
-two-pos : zero < 2
-two-pos = zero-lt-suc 1
 
 -- ---- `count_ones`
 
@@ -97,10 +94,10 @@ lowest (suc k) n i p h = go (λ i. lowest k (n / 2) i) (n % 2) refl i
         ∙ ap₂ (λ (x y : Bool). x && not y) (sym (bit-suc n i)) (sym (eqb·suc-suc i (trailingZeros k (n / 2))))
     go rest (suc d) e zero =
         ap (λ (x : Bool). bit n zero && x)
-        (bit-0 (n - 1) ∙ ap (λ (x : ℕ). eqb (x % 2) 1) (odd-pred n p d e) ∙ ap (λ (x : ℕ). eqb x 1) (digits-mod (n / 2) (zero-lt-suc 1)))
+        (bit-0 (n - 1) ∙ ap (λ (x : ℕ). eqb (x % 2) 1) (odd-pred n p d e) ∙ ap (λ (x : ℕ). eqb x 1) (digits-mod (n / 2) two-pos))
     go rest (suc d) e (suc i) =
         ap (λ (x : Bool). bit n (suc i) && x)
-        (bit-suc (n - 1) i ∙ ap (λ (x : ℕ). bit x i) (ap (λ (x : ℕ). x / 2) (odd-pred n p d e) ∙ digits-div (n / 2) (zero-lt-suc 1)) ∙ sym (bit-suc n i))
+        (bit-suc (n - 1) i ∙ ap (λ (x : ℕ). bit x i) (ap (λ (x : ℕ). x / 2) (odd-pred n p d e) ∙ digits-div (n / 2) two-pos) ∙ sym (bit-suc n i))
         ∙ and-self (bit n (suc i)) ∙ sym (and-true (bit n (suc i)))
         ∙ ap (λ (x : Bool). bit n (suc i) && not x) (sym (eqb·suc-zero i))
 

@@ -8,9 +8,9 @@ use lib.Dec.{eqb, ltb, leb·suc-suc, leb·suc-zero}
 use lib.Bits.{or-lt, and-le-l}
 use lib.Count.{ones}
 use lib.Pow.{pow-lt, pow-mono, pow-pos}
-use borrow.Author.Tests.{lt-ltb}
+use borrow.Author.Tests.{lt-ltb, ltb-true}
 use Rattle.positions.specs.Positions.{Positions, one, countFrom}
-use Rattle.positions.proofs.Bools.{same₂}
+use Rattle.positions.proofs.Bools.{and-left, and-right, same₂}
 use Rattle.positions.proofs.Counts.{countFrom-ext}
 use Rattle.bits.specs.Bit.{bit, mask, put}
 use Rattle.bits.proofs.Bits.{bit-0, bit-suc, bit-zero, bit-and, bit-or, bit-not, bit-ext, bit-pow}
@@ -51,6 +51,12 @@ mask-bit (suc n) f (suc i) =
 
 pub mask-at : (n : ℕ) (f : Positions) (j : ℕ) → j < n → bit (mask n f) j ≡ f j
 mask-at n f j h = mask-bit n f j ∙ ap (λ (x : Bool). x && f j) (lt-ltb j n h)
+
+-- a set bit is one of the n, and has its value
+pub mask-true : (n : ℕ) (f : Positions) (j : ℕ) → bit (mask n f) j ≡ true → (j < n) × (f j ≡ true)
+mask-true n f j e =
+    let p = sym (mask-bit n f j) ∙ e in
+    (ltb-true j n (and-left (ltb j n) (f j) p), and-right (ltb j n) (f j) p)
 
 pub mask-ext : (n : ℕ) (f g : Positions) → ((j : ℕ) → j < n → f j ≡ g j) → mask n f ≡ mask n g
 unfolding mask

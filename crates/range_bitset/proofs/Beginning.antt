@@ -5,14 +5,13 @@ use mathlib.Core.List.{List}
 use Prim.Native.Nat.{ℕ, _+_, _*_, _/_, _<_}
 use native.Mathlib.Omega.{arith}
 use lib.ListN.{drop}
-use borrow.Author.Tests.{eq-eqb}
 use Rattle.positions.specs.Positions.{Positions}
 use Rattle.bits.proofs.Words.{mask-ext, mask-none}
-use Rattle.range_bitset.specs.Layout.{blocks, needed, wordsOf, at, topNonzero, topFull, Slot}
-use Rattle.range_bitset.specs.Represents.{wordOf, nonzeroMask, anyBlock, allBlock, closed, masked, Stored}
+use Rattle.range_bitset.specs.Layout.{blocks, needed, at, topNonzero, topFull, Slot}
+use Rattle.range_bitset.specs.Represents.{wordOf, anyBlock, allBlock, closed, masked, Stored}
 use Rattle.range_bitset.specs.Inner.{Room, In, stores, find, beginning, Begins}
 use Rattle.range_bitset.proofs.Slots.{stores-at, stores-kept}
-use Rattle.range_bitset.proofs.Words.{none-all-block}
+use Rattle.range_bitset.proofs.Words.{block-none, none-all-block}
 
 module _ (W : ℕ) (st : List ℕ) (room : Room W st) (s : Positions) (clear : (i : ℕ) → i < 64 * W → s i ≡ false) where
   word-clear : (k : ℕ) → k < W → wordOf s k ≡ 0
@@ -20,11 +19,7 @@ module _ (W : ℕ) (st : List ℕ) (room : Room W st) (s : Positions) (clear : (
   word-clear k h = mask-ext 64 _ (λ i. false) (λ i l. clear (64 * k + i) (omega arith)) ∙ mask-none 64
 
   none-any : (b : ℕ) → b < blocks W → anyBlock W s b ≡ false
-  unfolding nonzeroMask
-  none-any b l =
-      ap not
-      (eq-eqb _ _
-      (mask-ext (wordsOf W b) _ (λ j. false) (λ j h. ap not (eq-eqb _ _ (word-clear (64 * b + j) (omega arith)))) ∙ mask-none (wordsOf W b)))
+  none-any b l = block-none W s b (λ j h. word-clear (64 * b + j) (omega arith))
 
   never : (b : ℕ) → b < blocks W → masked W s closed b ≡ true → ⊥
   never b l m = false≢true (ap (λ (x : Bool). x && not (allBlock W s b)) (sym (none-any b l)) ∙ m)

@@ -1,26 +1,26 @@
 -- The candidate masks: what a word, a block and the masks over them say of the positions of a value. Assumes nothing.
-use mathlib.Core.Path.{_≡_, ap, sym, _∙_}
+use mathlib.Core.Path.{_≡_, refl, ap, sym, _∙_}
 use mathlib.Core.Bool.{Bool, true, false, not, _&&_, true≢false, false≢true}
 use mathlib.Core.List.{List}
 use Prim.Native.Nat.{ℕ, suc, _+_, _*_, _-_, _^_, _≤_, _<_}
-use native.Mathlib.Nat.{lt-of-le-of-lt, lt-of-lt-of-le}
+use native.Mathlib.Nat.{le-refl, lt-of-le-of-lt, lt-of-lt-of-le}
 use native.Mathlib.Omega.{arith}
-use lib.Dec.{ltb}
 use lib.Bits.{bitAnd, and-le-l}
-use lib.Pow.{pow-mono, pow-pos, ones-lt}
-use borrow.Author.Tests.{lt-ltb, eq-eqb, not-false, le-leb}
+use lib.Pow.{pow-mono, pow-pos}
+use borrow.Author.Tests.{lt-ltb, eq-eqb, not-false}
 use Rattle.positions.specs.Positions.{Positions}
 use Rattle.positions.proofs.Ranges.{within-in}
 use Rattle.positions.specs.Walks.{Lacks}
 use Rattle.bits.specs.Bit.{bit, mask}
-use Rattle.bits.proofs.Bits.{bit-zero, bit-ones, bit-and, bit-not, bit-none, bit-all, bit-ext}
-use Rattle.bits.proofs.Words.{mask-lt, mask-at, mask-ext, mask-none, mask-all}
+use Rattle.bits.proofs.Bits.{bit-zero, bit-ones, bit-and, bit-not, bit-none, bit-all}
+use Rattle.bits.proofs.Words.{mask-lt, mask-at}
 use Rattle.range_bitset.specs.Layout.{blocks, wordsOf, at, nonzero, full, topNonzero, topFull}
 use Rattle.range_bitset.specs.Read.{ALL, stateOf}
-use Rattle.range_bitset.specs.Represents.{wordOf, anyWord, allWord, valid, nonzeroMask, fullMask, anyBlock, allBlock}
+use Rattle.range_bitset.specs.Represents.{wordOf, anyWord, allWord, valid, fullMask, anyBlock, allBlock, closed}
 use Rattle.range_bitset.specs.Inner.{Spans, Marks, wordStart, CandidateWords, CandidateBlocks}
 use Rattle.range_bitset.specs.declared.State.the-variants.{Empty, Mixed, Full}
-use Rattle.range_bitset.proofs.Words.{word-lt, word-bit, word-all, word-none, clear-positions, full-positions, state-empty, state-full, state-masked}
+use Rattle.range_bitset.proofs.Masks.{spans-lt}
+use Rattle.range_bitset.proofs.Words.{valid-fits, nonzero-bit, word-lt, word-bit, word-all, word-none, block-none, block-all, clear-positions, full-positions, state-empty, state-full, state-masked}
 
 never : (v : Bool) → v ≡ not v → ⊥
 never true e = true≢false e
@@ -87,12 +87,9 @@ module _ (W b : ℕ) where
 -- ---- the returns of `candidate_words`
 
 module _ (W : ℕ) (st : List ℕ) (b : ℕ) (l : b < blocks W) where
-  valid-fits : valid W b < 2 ^ wordsOf W b
-  valid-fits = ones-lt (wordsOf W b)
-
   -- a mask cut to the block's words
   cut-fits : (m x : ℕ) → m ≡ valid W b → bitAnd m x < 2 ^ wordsOf W b
-  cut-fits m x e = omega (arith, and-le-l m x, valid-fits)
+  cut-fits m x e = omega (arith, and-le-l m x, valid-fits W b e)
 
   cut-bit : (m x j : ℕ) → m ≡ valid W b → j < wordsOf W b → bit (bitAnd m x) j ≡ bit x j
   cut-bit m x j e h =
@@ -121,7 +118,7 @@ module _ (W : ℕ) (st : List ℕ) (b : ℕ) (l : b < blocks W) where
     empty-zeros false e w =
         rw k
         (record {
-          fits = valid-fits;
+          fits = valid-fits W b refl;
           marks = λ s h. alike W b s false (clear-positions W s b (state-empty W st b l s h w));
         })
 
@@ -130,12 +127,11 @@ module _ (W : ℕ) (st : List ℕ) (b : ℕ) (l : b < blocks W) where
     full-ones true e w =
         rw k
         (record {
-          fits = valid-fits;
+          fits = valid-fits W b refl;
           marks = λ s h. alike W b s true (full-positions W s b (state-full W st b l s h w));
         })
 
     pub mixed-ones : (v : Bool) (x : ℕ) → v ≡ true → stateOf W st b ≡ Mixed → at W st (nonzero b) ≡ x → CandidateWords W b v st (bitAnd m x)
-    unfolding nonzeroMask
     mixed-ones false x e w q = absurd (false≢true e)
     mixed-ones true x e w q =
         record {
@@ -143,8 +139,8 @@ module _ (W : ℕ) (st : List ℕ) (b : ℕ) (l : b < blocks W) where
           marks = λ s h.
               nonzero-marks W b s (bitAnd m x)
               (λ j u.
-              cut-bit m x j k u ∙ ap (λ (y : ℕ). bit y j) (sym q ∙ h .nonzeros b l (state-masked W st b l s h w))
-              ∙ mask-at (wordsOf W b) _ j u);
+              cut-bit m x j k u ∙ ap (λ (y : ℕ). bit y j) (sym q)
+              ∙ nonzero-bit W st s closed h b j l u (state-masked W st b l s h w));
         }
 
     pub mixed-zeros : (v : Bool) (x : ℕ) → v ≡ false → stateOf W st b ≡ Mixed → at W st (full b) ≡ x → CandidateWords W b v st (bitAnd m (ALL - x))
@@ -167,29 +163,14 @@ module _ (W : ℕ) (st : List ℕ) (b : ℕ) (l : b < blocks W) where
 
 module _ (W : ℕ) (s : Positions) (b : ℕ) where
   pub lacks-any : Lacks s true (4096 * b) (4096 * b + 64 * wordsOf W b) → anyBlock W s b ≡ false
-  unfolding nonzeroMask
-  lacks-any h =
-      ap not
-      (eq-eqb (nonzeroMask W s b) 0
-      (mask-ext (wordsOf W b) _ (λ j. false)
-      (λ j u. ap not (eq-eqb (wordOf s (64 * b + j)) 0 (lacks-clear s (64 * b + j) (λ i p q. h i (omega arith) (omega arith)))))
-      ∙ mask-none (wordsOf W b)))
+  lacks-any h = block-none W s b (λ j u. lacks-clear s (64 * b + j) (λ i p q. h i (omega arith) (omega arith)))
 
   pub lacks-all : Lacks s false (4096 * b) (4096 * b + 64 * wordsOf W b) → allBlock W s b ≡ true
-  unfolding fullMask
-  lacks-all h =
-      eq-eqb (fullMask W s b) (valid W b)
-      (mask-ext (wordsOf W b) _ (λ j. true)
-      (λ j u. eq-eqb (wordOf s (64 * b + j)) ALL (lacks-full s (64 * b + j) (λ i p q. h i (omega arith) (omega arith))))
-      ∙ mask-all (wordsOf W b))
+  lacks-all h = block-all W s b (λ j u. lacks-full s (64 * b + j) (λ i p q. h i (omega arith) (omega arith)))
 
 module _ (W : ℕ) (st : List ℕ) (c : W ≤ 4096) (m : ℕ) (f : m < 2 ^ 64) (k : Spans m 0 (blocks W)) where
   top-fits : (x : ℕ) → bitAnd m x < 2 ^ blocks W
-  top-fits x =
-      let n : blocks W ≤ 64 = omega arith in
-      let h : 2 ^ blocks W ≤ 2 ^ 64 = pow-mono n in
-      let e : m ≡ 2 ^ blocks W - 1 = bit-ext 64 m (2 ^ blocks W - 1) f (lt-of-lt-of-le (ones-lt (blocks W)) h) (λ i l. k i ∙ ap (λ (y : Bool). y && ltb i (blocks W)) (le-leb 0 i (omega arith)) ∙ sym (bit-ones (blocks W) i)) in
-      lt-of-le-of-lt (and-le-l m x) (omega (arith, e, ones-lt (blocks W)))
+  top-fits x = lt-of-le-of-lt (and-le-l m x) (spans-lt m 0 (blocks W) (blocks W) f k (le-refl (blocks W)))
 
   top-bit : (x b : ℕ) → b < blocks W → bit (bitAnd m x) b ≡ bit x b
   top-bit x b h = bit-and m x b ∙ ap (λ (y : Bool). y && bit x b) (k b ∙ within-in 0 (blocks W) b (omega arith) h)

@@ -1,20 +1,20 @@
--- A mask that spans a range, in a word, in a block's words and in the blocks: how many bits it has, and what giving the
--- range a value does to each word. Assumes nothing.
-use mathlib.Core.Path.{_≡_, refl, ap, sym, _∙_, subst}
-use mathlib.Core.Bool.{Bool, true, false, _&&_, cond, and-false}
-use Prim.Native.Nat.{ℕ, _+_, _*_, _-_, _%_, _^_, _≤_, _<_}
-use native.Mathlib.Nat.{lt-of-lt-of-le, lt-of-le-of-lt, mod-lt, mod-le}
+-- A mask that spans a range, in a word, in a block's words and in the blocks: how many bits it has, below what it lies, and
+-- what giving the range a value does to each word. Assumes nothing.
+use mathlib.Core.Path.{_≡_, refl, ap, sym, _∙_}
+use mathlib.Core.Bool.{Bool, true, false, cond}
+use Prim.Native.Nat.{ℕ, zero-le, _+_, _*_, _-_, _^_, _≤_, _<_}
+use native.Mathlib.Nat.{le-refl, lt-of-lt-of-le}
 use native.Mathlib.Omega.{arith}
 use lib.Count.{ones}
-use lib.Pow.{pow-mono, pow-pos}
-use lib.Dec.{ltb}
-use borrow.Author.Tests.{lt-ltb}
+use lib.Dec.{leb, ltb}
+use borrow.Author.Tests.{ltb-true}
 use Rattle.positions.specs.Positions.{Positions, within, assigned, count}
+use Rattle.positions.proofs.Bools.{and-right}
 use Rattle.positions.proofs.Ranges.{Place, inside, before, behind, place, within-in, within-before, within-behind, within-shift}
 use Rattle.positions.proofs.Counts.{count-split, count-none, count-all, count-from, countFrom-ext}
 use Rattle.positions.proofs.Assigned.{assigned-in, assigned-before, assigned-behind}
 use Rattle.bits.specs.Bit.{bit, mask, put}
-use Rattle.bits.proofs.Bits.{bit-mod, bit-ext}
+use Rattle.bits.proofs.Bits.{bits-fit, bit-all}
 use Rattle.bits.proofs.Ones.{ones-countFrom}
 use Rattle.bits.proofs.Words.{mask-of, mask-ext, mask-none, mask-all, put-lt, put-bit}
 use Rattle.range_bitset.specs.Read.{ALL}
@@ -85,17 +85,8 @@ put-words s x y v k = go (place x y k)
 -- a mask that spans a range lies below the range's end
 pub spans-lt : (m a b n : ℕ) → m < 2 ^ 64 → Spans m a b → b ≤ n → m < 2 ^ n
 spans-lt m a b n fit sp h =
-    lt-of-lt-of-le (subst (λ (x : ℕ). x < 2 ^ b) (sym same) (mod-lt m (pow-pos b))) (pow-mono h)
-  where
-    cut : (i : ℕ) → within a b i ≡ (ltb i b && within a b i)
-    cut i = go (place a b i)
-      where
-        go : Place a b i → within a b i ≡ (ltb i b && within a b i)
-        go (inside u v w) = rw (w, lt-ltb i b v)
-        go (before u w) = rw w (sym (and-false (ltb i b)))
-        go (behind u w) = rw w (sym (and-false (ltb i b)))
+    bits-fit 64 n m fit (λ i e. lt-of-lt-of-le (ltb-true i b (and-right (leb a i) (ltb i b) (sym (sp i) ∙ e))) h)
 
-    same : m ≡ m % 2 ^ b
-    same =
-        bit-ext 64 m (m % 2 ^ b) fit (lt-of-le-of-lt (mod-le m (2 ^ b)) fit)
-        (λ i l. sp i ∙ cut i ∙ ap (λ (x : Bool). ltb i b && x) (sym (sp i)) ∙ sym (bit-mod b m i))
+-- one that spans all below n
+pub spans-low : (n m : ℕ) → m < 2 ^ 64 → Spans m 0 n → m ≡ 2 ^ n - 1
+spans-low n m fit sp = bit-all n m (spans-lt m 0 n n fit sp (le-refl n)) (λ i l. sp i ∙ within-in 0 n i zero-le l)

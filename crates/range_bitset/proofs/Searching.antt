@@ -2,7 +2,7 @@
 -- of the value sought: one law for each return. Assumes nothing.
 use mathlib.Core.Path.{_≡_, refl, ap, sym, _∙_}
 use mathlib.Core.Logic.{_≢_}
-use mathlib.Core.Bool.{Bool, true, false, not, _&&_, cond, true≢false, false≢true}
+use mathlib.Core.Bool.{Bool, true, false, not, _&&_, cond, true≢false}
 use mathlib.Core.List.{List}
 use Prim.Native.Nat.{ℕ, zero, suc, _+_, _*_, _-_, _/_, _%_, _^_, _≤_, _<_}
 use native.Mathlib.Nat.{le-refl, lt-of-le-of-lt, lt-of-lt-of-le, add-zero, add-suc}
@@ -18,7 +18,7 @@ use Rattle.positions.proofs.Bools.{and-left, and-right}
 use Rattle.positions.proofs.Ranges.{within-in}
 use Rattle.positions.specs.Walks.{Lacks, Stops}
 use Rattle.bits.specs.Bit.{bit}
-use Rattle.bits.proofs.Bits.{bit-zero, bit-and, bit-not, bit-beyond}
+use Rattle.bits.proofs.Bits.{bit-zero, bit-and, bit-not, bit-below}
 use Rattle.bits.proofs.Ones.{tz-below, tz-bit, tz-lt, tz-set}
 use Rattle.range_bitset.specs.Layout.{blocks, wordsOf, at}
 use Rattle.range_bitset.specs.Read.{ALL, wordRead}
@@ -92,14 +92,6 @@ lowest-whole x h ne =
       set = tz-set 64 x ne h;
       clear = λ i p q. tz-below 64 x i q;
     }
-
--- a set bit of a mask of n lies below n
-pub in-mask : (n x t : ℕ) → x < 2 ^ n → bit x t ≡ true → t < n
-in-mask n x t h e = by (decLt t n)
-  where
-    by : Dec (t < n) → t < n
-    by (yes l) = l
-    by (no l) = absurd (false≢true (sym (bit-beyond n x t h (omega arith)) ∙ e))
 
 -- ---- the bits of a word that have the value
 
@@ -231,7 +223,7 @@ module _ (W : ℕ) (st : List ℕ) (a : ℕ) (v : Bool) (l : a < 64 * W) where
       found-word = lowest-masked x y (a / 64 % 64 + 1) wide g ne
 
       own : trailingZeros 64 (bitAnd x y) < wordsOf W (a / 64 / 64)
-      own = in-mask (wordsOf W (a / 64 / 64)) x (trailingZeros 64 (bitAnd x y)) (c .fits) (found-word .set)
+      own = bit-below (wordsOf W (a / 64 / 64)) x (trailingZeros 64 (bitAnd x y)) (c .fits) (found-word .set)
 
       pub word-there : a / 64 / 64 * 64 + trailingZeros 64 (bitAnd x y) < W
       word-there = let h = own in omega arith
@@ -279,7 +271,7 @@ module _ (W : ℕ) (st : List ℕ) (a : ℕ) (v : Bool) (l : a < 64 * W) where
       found-block = lowest-masked x y (a / 64 / 64 + 1) broad g ne
 
       pub block-there : trailingZeros 64 (bitAnd x y) < blocks W
-      block-there = in-mask (blocks W) x (trailingZeros 64 (bitAnd x y)) (d .fits) (found-block .set)
+      block-there = bit-below (blocks W) x (trailingZeros 64 (bitAnd x y)) (d .fits) (found-block .set)
 
       -- the words of the block that was found
       module _ (w : ℕ) (k : CandidateWords W (trailingZeros 64 (bitAnd x y)) v st w) where
@@ -303,7 +295,7 @@ module _ (W : ℕ) (st : List ℕ) (a : ℕ) (v : Bool) (l : a < 64 * W) where
               lowest-whole w (lt-of-lt-of-le (k .fits) (pow-mono n)) nz
 
           own-word : trailingZeros 64 w < wordsOf W (trailingZeros 64 (bitAnd x y))
-          own-word = in-mask (wordsOf W (trailingZeros 64 (bitAnd x y))) w (trailingZeros 64 w) (k .fits) (low-word .set)
+          own-word = bit-below (wordsOf W (trailingZeros 64 (bitAnd x y))) w (trailingZeros 64 w) (k .fits) (low-word .set)
 
           pub later-there : trailingZeros 64 (bitAnd x y) * 64 + trailingZeros 64 w < W
           later-there = let h = own-word in omega arith

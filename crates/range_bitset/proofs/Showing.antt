@@ -1,16 +1,9 @@
 -- The returns of the entries for the audit: what each shows, from what the code has there. Assumes nothing.
 use mathlib.Core.Path.{_≡_, refl, ap, sym, _∙_}
-use mathlib.Core.Bool.{Bool, _&&_}
 use mathlib.Core.List.{List}
-use Prim.Native.Nat.{ℕ, zero-le, _-_, _/_, _^_, _≤_, _<_}
-use native.Mathlib.Nat.{lt-of-lt-of-le}
-use native.Mathlib.Omega.{arith}
-use lib.Dec.{ltb}
+use Prim.Native.Nat.{ℕ, _-_, _/_, _^_, _<_}
 use lib.ListN.{length, getD}
-use lib.Pow.{pow-mono, pow-pos}
-use borrow.Author.Tests.{le-leb}
-use Rattle.bits.proofs.Bits.{bit-ones, bit-ext}
-use Rattle.range_bitset.specs.Layout.{blocks, wordsOf, address, nonzero, full, population, topNonzero, topFull}
+use Rattle.range_bitset.specs.Layout.{blocks, address, nonzero, full, population, topNonzero, topFull}
 use Rattle.range_bitset.specs.Read.{stateOf}
 use Rattle.range_bitset.specs.Represents.{valid}
 use Rattle.range_bitset.specs.Answers.{storageRefusal, pointRefusal}
@@ -22,7 +15,7 @@ use Rattle.range_bitset.specs.declared.MixedBlock.{MixedBlock}
 use Rattle.range_bitset.specs.declared.ShownBlock.{ShownBlock}
 use Rattle.range_bitset.specs.declared.ShownTops.the-variants as tops
 use Rattle.range_bitset.specs.declared.State.{State}
-use Rattle.range_bitset.proofs.Heads.{accepted}
+use Rattle.range_bitset.proofs.Masks.{spans-low}
 
 -- ---- refused, or shown
 
@@ -34,18 +27,10 @@ shown k refusal x r e p = record { declines = λ n. absurd (n e); shows = λ q. 
 
 -- ---- the top masks
 
--- the number that has the bits below n
-low-bits : (n m : ℕ) → n ≤ 64 → m < 2 ^ 64 → Spans m 0 n → m ≡ 2 ^ n - 1
-low-bits n m l h s =
-    let p = pow-pos n in
-    bit-ext 64 m (2 ^ n - 1) h (lt-of-lt-of-le (omega arith) (pow-mono l))
-    (λ j u. s j ∙ ap (λ (x : Bool). x && ltb j n) (le-leb 0 j zero-le) ∙ sym (bit-ones n j))
-
 pub tops-shown : (h : RangeBitset) (st : List ℕ) (i k b m : ℕ) → storageRefusal h (length st) ≡ 0 → i ≡ address (h .words) topNonzero → k ≡ address (h .words) topFull
     → b ≡ blocks (h .words) → m < 2 ^ 64 → Spans m 0 b → TopsEnsures h st (tops.Tops (record { nonzero = getD st i 0; full = getD st k 0; valid = m }))
 tops-shown h st i k b m e p q r f s =
-    let l = accepted h st e .most in
-    let v : m ≡ 2 ^ blocks (h .words) - 1 = low-bits b m (omega arith) f s ∙ ap (λ (n : ℕ). 2 ^ n - 1) r in
+    let v : m ≡ 2 ^ blocks (h .words) - 1 = spans-low b m f s ∙ ap (λ (n : ℕ). 2 ^ n - 1) r in
     shown _ _ _ _ e (rw (p, q, v) refl)
 
 -- ---- a block
@@ -54,9 +39,6 @@ pub mixed-shown : (W : ℕ) (st : List ℕ) (b i k m p n : ℕ) → i ≡ addres
     → p ≡ address W (population b) → n ≡ mixedCount W st b m
     → _≡_ {A = MixedBlock} (record { nonzero = getD st i 0; full = getD st k 0; valid = m; population = getD st p 0; counted = n }) (mixedOf W st b)
 mixed-shown W st b i k m p n ei ek em ep en = rw (en, ei, ek, em, ep) refl
-
-pub valid-fits : (W b : ℕ) {v : ℕ} → v ≡ valid W b → v < 2 ^ wordsOf W b
-valid-fits W b e = let p = pow-pos (wordsOf W b) in omega arith
 
 -- the block in a state, with the numbers shown of it
 pub block-shown : (h : RangeBitset) (st : List ℕ) (i : ℕ) (x : State) (r : ShownBlock) → pointRefusal h (length st) i ≡ 0 → stateOf (h .words) st (i / 4096) ≡ x

@@ -2,11 +2,10 @@
 -- by its masks, and of whole blocks by the top masks. Assumes nothing.
 use mathlib.Core.Path.{_≡_, refl, sym, ap, ap₂, subst, _∙_}
 use mathlib.Core.Logic.{_≢_}
-use mathlib.Core.Bool.{Bool, true, false, not, _&&_, true≢false, cond}
+use mathlib.Core.Bool.{Bool, true, false, not, _&&_, cond}
 use mathlib.Core.List.{List}
 use Prim.Native.Nat.{ℕ, _+_, _*_, _-_, _/_, _%_, _^_, _≤_, _<_}
 use native.Mathlib.Nat.{lt-of-lt-of-le, lt-of-le-of-lt, mul-zero}
-use native.Mathlib.Decide.{decLt}
 use native.Mathlib.Omega.{arith}
 use lib.Bits.{bitAnd, and-le-l, and-le-r}
 use lib.Count.{ones, ones-le, ones-ones, trailingZeros}
@@ -19,7 +18,7 @@ use Rattle.positions.proofs.Bools.{and-left, and-right, same₂, same₃}
 use Rattle.positions.proofs.Counts.{over-const}
 use Rattle.positions.proofs.Sums.{over-bound, over-diff, over-ext, over-terms}
 use Rattle.bits.specs.Bit.{bit}
-use Rattle.bits.proofs.Bits.{bit-and, bit-beyond}
+use Rattle.bits.proofs.Bits.{bit-and, bit-below}
 use Rattle.bits.proofs.Masks.{bit-without}
 use Rattle.bits.proofs.Ones.{tz-set}
 use Rattle.range_bitset.specs.Layout.{blocks, wordsOf, address, at, word, nonzero, full, population, topNonzero, topFull}
@@ -31,17 +30,9 @@ use Rattle.bits.proofs.Walks.{walk-const, walk-step}
 
 -- ---- the walks
 
--- a bit of a mask of n bits is one of them
-pub below-of : (m n i : ℕ) → m < 2 ^ n → bit m i ≡ true → i < n
-below-of m n i h e = by (decLt i n)
-  where
-    by : Dec (i < n) → i < n
-    by (yes p) = p
-    by (no p) = absurd (true≢false (sym e ∙ bit-beyond n m i h (omega arith)))
-
--- and so is its lowest
+-- the lowest bit of a mask of n bits is one of them
 pub lowest-lt : (n m : ℕ) → m ≢ 0 → n ≤ 64 → m < 2 ^ n → trailingZeros 64 m < n
-lowest-lt n m z l h = below-of m n (trailingZeros 64 m) h (tz-set 64 m z (lt-of-lt-of-le h (pow-mono l)))
+lowest-lt n m z l h = bit-below n m (trailingZeros 64 m) h (tz-set 64 m z (lt-of-lt-of-le h (pow-mono l)))
 
 module _ (W : ℕ) (st : List ℕ) (r : Room W st) where
   -- the top masks have a bit for every block
@@ -124,6 +115,24 @@ mixed-row W st b j h =
     let e : (64 * b + j) % 64 ≡ j = omega arith in
     rw (d, e)
 
+-- any word, where its block is mixed
+pub mixed-lt : (W : ℕ) (st : List ℕ) → ((k : ℕ) → getD st k 0 < 2 ^ 64) → (k : ℕ) → mixedRead W st k < 2 ^ 64
+unfolding mixedRead
+mixed-lt W st known k = by (bit (at W st (full (k / 64))) (k % 64)) (bit (at W st (nonzero (k / 64))) (k % 64))
+  where
+    by : (f n : Bool) → cond f ALL (cond n (at W st (word k)) 0) < 2 ^ 64
+    by true n = omega arith
+    by false true = known k
+    by false false = omega arith
+
+-- word j of block b, by the block's state
+pub read-by : (W : ℕ) (st : List ℕ) (b : ℕ) (x : State) → stateOf W st b ≡ x → (j : ℕ) → j < 64
+    → wordRead W st (64 * b + j) ≡ byState x (mixedRead W st (64 * b + j))
+unfolding wordRead
+read-by W st b x e j h =
+    let d : (64 * b + j) / 64 ≡ b = omega arith in
+    ap (λ (y : State). byState y (mixedRead W st (64 * b + j))) (ap (stateOf W st) d ∙ e)
+
 ones-cond : (f n : Bool) (d : ℕ) → ones (cond f ALL (cond n d 0)) ≡ cond f 64 (cond n (ones d) 0)
 ones-cond true n d = ones-ones 64
 ones-cond false true d = refl
@@ -163,12 +172,7 @@ module _ (W : ℕ) (st : List ℕ) (b m : ℕ) (known : (k : ℕ) → getD st k 
   unfolding mixedCount
   mixed-most =
       over-bound (bit m) (λ j. ones (mixedRead W st (64 * b + j))) 64 0 64
-      (λ j p q. ones-le 64 _ (omega (arith, mixed-row W st b j q, most (bit (at W st (full b)) j) (bit (at W st (nonzero b)) j) (known (64 * b + j)))))
-    where
-      most : (f n : Bool) {d : ℕ} → d < 2 ^ 64 → cond f ALL (cond n d 0) < 2 ^ 64
-      most true n h = omega arith
-      most false true h = h
-      most false false h = omega arith
+      (λ j p q. ones-le 64 _ (mixed-lt W st known (64 * b + j)))
 
   -- by the masks at the slots f and n, and the block's words
   pub mixed-total : (f n w : ℕ) → f ≡ address W (full b) → n ≡ address W (nonzero b) → w ≡ wordsOf W b → m < 2 ^ wordsOf W b
@@ -187,7 +191,7 @@ module _ (W : ℕ) (st : List ℕ) (b m : ℕ) (known : (k : ℕ) → getD st k 
       let low : E < 2 ^ w = subst (λ (x : ℕ). E < 2 ^ x) (sym ew) (lt-of-le-of-lt (and-le-r (bitAnd N ((2 ^ 64 - 1) - bitAnd F m)) m) h) in
       ap (λ (x : ℕ). ones (bitAnd F m) * 64 + x)
       (over-terms (bit E) (λ k. ones (getD (take (64 * b + w - 64 * b) (drop (64 * b) st)) k 0)) (λ k. ones (getD st (64 * b + k) 0)) 0 64
-      (λ k p q e. ap ones (part-at st (64 * b) w k (below-of E w k low e))))
+      (λ k p q e. ap ones (part-at st (64 * b) w k (bit-below w E k low e))))
       ∙ sym
       (marked-sum F N m (bitAnd F m) E (lt-of-le-of-lt (and-le-l F m) (known f))
       (λ i. bit-and F m i ∙ same₂ (λ x y. x && y) (λ x y. y && x) tt (bit F i) (bit m i))
@@ -195,12 +199,10 @@ module _ (W : ℕ) (st : List ℕ) (b m : ℕ) (known : (k : ℕ) → getD st k 
 
 module _ (W : ℕ) (st : List ℕ) (b m : ℕ) where
   by-state : (q : State) → stateOf W st b ≡ q → wordsCount W st b m ≡ sumOver (bit m) (λ j. ones (byState q (mixedRead W st (64 * b + j)))) 0 64
-  unfolding wordsCount wordRead
+  unfolding wordsCount
   by-state q e =
       over-terms (bit m) (λ j. ones (wordRead W st (64 * b + j))) (λ j. ones (byState q (mixedRead W st (64 * b + j)))) 0 64
-      (λ j p l g.
-      let d : (64 * b + j) / 64 ≡ b = omega arith in
-      ap (λ (x : State). ones (byState x (mixedRead W st (64 * b + j)))) (ap (stateOf W st) d ∙ e))
+      (λ j p l g. ap ones (read-by W st b q e j l))
 
   pub words-empty : stateOf W st b ≡ Empty → wordsCount W st b m ≡ 0
   words-empty e =

@@ -8,8 +8,8 @@ use native.Mathlib.Nat.{add-zero}
 use native.Mathlib.Omega.{arith}
 use lib.Dec.{ltb}
 use lib.Count.{ones}
-use lib.Pow.{pow-mono}
-use borrow.Author.Tests.{lt-ltb, ne-eqb, eqb-true, not-false}
+use lib.Pow.{pow-mono, pow-pos}
+use borrow.Author.Tests.{lt-ltb, eq-eqb, ne-eqb, eqb-true, not-false}
 use Rattle.positions.specs.Positions.{Positions, count, countFrom}
 use Rattle.positions.proofs.Counts.{countFrom-shift, count-from, count-none, count-all, count-le}
 use Rattle.bits.specs.Bit.{bit}
@@ -83,6 +83,10 @@ words-some W b h =
     let p : 2 ^ 1 ≤ 2 ^ wordsOf W b = pow-mono n in
     omega arith
 
+-- the mask of all its words
+pub valid-fits : (W b : ℕ) {v : ℕ} → v ≡ valid W b → v < 2 ^ wordsOf W b
+valid-fits W b e = let p = pow-pos (wordsOf W b) in omega arith
+
 module _ (W : ℕ) (s : Positions) (b : ℕ) where
   pub full-words : allBlock W s b ≡ true → (j : ℕ) → j < wordsOf W b → allWord s (64 * b + j) ≡ true
   unfolding fullMask
@@ -96,6 +100,15 @@ module _ (W : ℕ) (s : Positions) (b : ℕ) where
   clear-words e j h =
       sym (mask-at (wordsOf W b) (λ i. anyWord s (64 * b + i)) j h)
       ∙ ap (λ (x : ℕ). bit x j) (eqb-true _ _ (not-false _ e)) ∙ bit-zero j
+
+  -- and back: all its words are 0, or all ones
+  pub block-none : ((j : ℕ) → j < wordsOf W b → wordOf s (64 * b + j) ≡ 0) → anyBlock W s b ≡ false
+  unfolding nonzeroMask
+  block-none h = ap not (eq-eqb _ _ (mask-ext (wordsOf W b) _ (λ j. false) (λ j l. ap not (eq-eqb _ _ (h j l))) ∙ mask-none (wordsOf W b)))
+
+  pub block-all : ((j : ℕ) → j < wordsOf W b → wordOf s (64 * b + j) ≡ ALL) → allBlock W s b ≡ true
+  unfolding fullMask
+  block-all h = eq-eqb _ _ (mask-ext (wordsOf W b) _ (λ j. true) (λ j l. eq-eqb _ _ (h j l)) ∙ mask-all (wordsOf W b))
 
   -- the positions of a block whose words all read the same
   positions : (w : ℕ) (v : Bool) → ((i : ℕ) → i < 64 → bit w i ≡ v) → ((j : ℕ) → j < wordsOf W b → wordOf s (64 * b + j) ≡ w)
@@ -151,6 +164,13 @@ module _ (W : ℕ) (s : Positions) (b : ℕ) where
         let h = words-some W b l in
         ne-eqb (fullMask W s b) (valid W b) (λ z. omega arith)
 
+    -- a full block is no empty one
+    pub all-any-block : allBlock W s b ≡ true → anyBlock W s b ≡ true
+    all-any-block e =
+        let p = full-nonzero e in
+        let h = words-some W b l in
+        ap not (ne-eqb (nonzeroMask W s b) 0 (λ z. omega arith))
+
 -- ---- what a storage that holds the set reads
 
 module _ (W : ℕ) (st : List ℕ) (s : Positions) (o : ℕ → Bool) (h : Holds W st s o) where
@@ -161,25 +181,25 @@ module _ (W : ℕ) (st : List ℕ) (s : Positions) (o : ℕ → Bool) (h : Holds
       (ap (λ (x : ℕ). bit x b) (h .top-full) ∙ mask-at (blocks W) _ b l)
       (ap (λ (x : ℕ). bit x b) (h .top-nonzero) ∙ mask-at (blocks W) _ b l)
 
+  -- a bit of a block's masks, where they are read
+  pub full-bit : (b j : ℕ) → b < blocks W → j < wordsOf W b → masked W s o b ≡ true → bit (at W st (full b)) j ≡ allWord s (64 * b + j)
+  unfolding fullMask
+  full-bit b j l u m = ap (λ (x : ℕ). bit x j) (h .fulls b l m) ∙ mask-at (wordsOf W b) _ j u
+
+  pub nonzero-bit : (b j : ℕ) → b < blocks W → j < wordsOf W b → masked W s o b ≡ true → bit (at W st (nonzero b)) j ≡ anyWord s (64 * b + j)
+  unfolding nonzeroMask
+  nonzero-bit b j l u m = ap (λ (x : ℕ). bit x j) (h .nonzeros b l m) ∙ mask-at (wordsOf W b) _ j u
+
   -- a word of a block whose masks are read
   pub mixed-is : (k : ℕ) → k < W → masked W s o (k / 64) ≡ true → mixedRead W st k ≡ wordOf s k
-  unfolding mixedRead fullMask nonzeroMask
+  unfolding mixedRead
   mixed-is k l m =
-      ap₂ (λ (x y : Bool). cond x ALL (cond y (at W st (word k)) 0)) f n ∙ by (allWord s k) refl (anyWord s k) refl
+      let i = in-block W k l in
+      ap₂ (λ (x y : Bool). cond x ALL (cond y (at W st (word k)) 0))
+      (full-bit (k / 64) (k % 64) (i .0) (i .1) m ∙ ap (allWord s) (i .2))
+      (nonzero-bit (k / 64) (k % 64) (i .0) (i .1) m ∙ ap (anyWord s) (i .2))
+      ∙ by (allWord s k) refl (anyWord s k) refl
     where
-      i : (k / 64 < blocks W) × (k % 64 < wordsOf W (k / 64)) × (64 * (k / 64) + k % 64 ≡ k)
-      i = in-block W k l
-
-      f : bit (at W st (full (k / 64))) (k % 64) ≡ allWord s k
-      f =
-          ap (λ (x : ℕ). bit x (k % 64)) (h .fulls (k / 64) (i .0) m) ∙ mask-at (wordsOf W (k / 64)) _ (k % 64) (i .1)
-          ∙ ap (allWord s) (i .2)
-
-      n : bit (at W st (nonzero (k / 64))) (k % 64) ≡ anyWord s k
-      n =
-          ap (λ (x : ℕ). bit x (k % 64)) (h .nonzeros (k / 64) (i .0) m) ∙ mask-at (wordsOf W (k / 64)) _ (k % 64) (i .1)
-          ∙ ap (anyWord s) (i .2)
-
       by : (a : Bool) → allWord s k ≡ a → (e : Bool) → anyWord s k ≡ e → cond a ALL (cond e (at W st (word k)) 0) ≡ wordOf s k
       by true p e q = sym (eqb-true _ _ p)
       by false p true q = h .stored k l m q p
