@@ -16,7 +16,7 @@ use Rattle.range_bitset.proofs.Heads.{range-accepts, point-accepts, fresh-good,
 use Rattle.ledger.specs.Machine.{Machine, fresh, Call, Outcome, step, after, setOf, population, used}
 use Rattle.ledger.specs.Memory.{Memory, memory, goodLedger, lentEnough, lentRefusal, Holds}
 use Rattle.ledger.specs.Entries.{newHead, newOf, refusalOf}
-use Rattle.ledger.specs.History.{Begun, by-new, by-open, Chain, call, Agrees, History}
+use Rattle.ledger.specs.History.{Begun, by-new, by-open, Chain, none as no-call, call, Agrees, History}
 use Rattle.ledger.specs.declared.Ledger.{Ledger}
 use Rattle.ledger.specs.declared.Opened.{Opened}
 use Rattle.ledger.specs.declared.Opened.the-variants as opened

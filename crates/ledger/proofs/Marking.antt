@@ -19,6 +19,7 @@ use Rattle.range_bitset.specs.Represents.{Represents}
 use Rattle.range_bitset.specs.Answers.{ofPlace, ofFound, rangeRefusal}
 use Rattle.range_bitset.specs.Entries.{NextEnsures}
 use Rattle.range_bitset.specs.declared.RangeBitset.{RangeBitset}
+use Rattle.range_bitset.specs.declared.Found.{Found as Place}
 use Rattle.range_bitset.specs.declared.Found.the-variants as place
 use Rattle.range_bitset.proofs.Heads.{range-accepted}
 use Rattle.ledger.specs.Machine.{needOf}

@@ -14,6 +14,7 @@ use Rattle.positions.proofs.Runs.{covered-above}
 use Rattle.range_bitset.specs.Layout.{allowed}
 use Rattle.range_bitset.specs.Represents.{Represents}
 use Rattle.range_bitset.specs.Answers.{allowedCapacity, goodHead, storageRefusal}
+use Rattle.range_bitset.specs.Entries.{newOf as setNew}
 use Rattle.range_bitset.specs.declared.RangeBitset.{RangeBitset}
 use Rattle.range_bitset.specs.declared.Made.{Made}
 use Rattle.range_bitset.specs.declared.Made.the-variants as made
