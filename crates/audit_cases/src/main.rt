@@ -1,56 +1,41 @@
 // Asks the audit about memories that differ in one number from a sound one, rule by rule, and prints yes, no or the refusal.
-// What it prints is held to `stdout`, which was made from 01's rules and not by this code.
+// What it prints is held to `stdout`, which was made from 01's rules and not by this code. Assumes that the kit's write does what it
+// says.
 //
 // Most cases have 2 words, in one block. The storage is then: word 0, word 1, the block's nonzero mask, its full mask, its
 // population, the top nonzero mask, the top full mask. Word 0 is 11, three positions; word 1 is full, so what stands there is
 // stale; the population is 67.
-use libc::STDOUT_FILENO;
 use range_bitset::RangeBitset;
 use range_bitset::Tested;
-
-fn say(text: &[u8]) {
-    io::write_all(STDOUT_FILENO, text);
-}
 
 fn print_answer(answer: Tested) {
     match answer {
         Tested::Is(sound) => {
             if sound {
-                say(b"yes\n");
+                say::text(b"yes\n");
             } else {
-                say(b"no\n");
+                say::text(b"no\n");
             }
         }
-        Tested::Refused(number) => {
-            say(b"refused ");
-            io::print_decimal(STDOUT_FILENO, number as u64);
-            say(b"\n");
-        }
+        Tested::Refused(k) => say::refused(k),
     }
 }
 
-// The audit of a head whose flag is set.
-fn begun(name: &[u8], words: u32, len: u32, storage: &[u64]) {
+// The audit of a head.
+fn audited(name: &[u8], words: u32, len: u32, allocated: bool, storage: &[u64]) {
     let head = RangeBitset {
         words,
         len,
-        allocated: true,
+        allocated,
     };
-    say(name);
-    say(b": ");
+    say::text(name);
+    say::text(b": ");
     print_answer(audit::audit(head, storage));
 }
 
-// The audit of a head whose flag is clear.
-fn fresh(name: &[u8], words: u32, len: u32, storage: &[u64]) {
-    let head = RangeBitset {
-        words,
-        len,
-        allocated: false,
-    };
-    say(name);
-    say(b": ");
-    print_answer(audit::audit(head, storage));
+// The audit of a head whose flag is set, as in most cases.
+fn begun(name: &[u8], words: u32, len: u32, storage: &[u64]) {
+    audited(name, words, len, true, storage);
 }
 
 fn stale_numbers() {
@@ -152,8 +137,20 @@ fn populations() {
         68,
         &[11, 5, 3, 2, 67, 1, 0],
     );
-    fresh(b"flag clear, population 0", 2, 0, &[11, 5, 3, 2, 67, 1, 0]);
-    fresh(b"flag clear, population 1", 2, 1, &[11, 5, 3, 2, 67, 1, 0]);
+    audited(
+        b"flag clear, population 0",
+        2,
+        0,
+        false,
+        &[11, 5, 3, 2, 67, 1, 0],
+    );
+    audited(
+        b"flag clear, population 1",
+        2,
+        1,
+        false,
+        &[11, 5, 3, 2, 67, 1, 0],
+    );
 }
 
 // 128 words: block 0 is full, block 1 has position 4,096 alone.

@@ -1,5 +1,6 @@
 // The lines of `sheetmark`: what a command line means, the text of an answer, and lines gathered from input in parts.
-// Every buffer is lent by the caller. Nothing here knows of a ledger, and nothing reads or writes a file.
+// Every buffer is lent by the caller. Nothing here knows of a ledger, and nothing reads or writes a file. Assumes nothing of its
+// callers: no entry has a `requires`.
 ghost use mathlib.Core.Path.{_≡_};
 ghost use mathlib.Core.List.{[], _∷_, _++_};
 ghost use Prim.Native.Nat.{_+_, _≤_, _<_};

@@ -1,47 +1,15 @@
 // 01's listing of the ledger with every call in the form where the head is lent, then a wipe. Prints each answer. `stdout` has
-// the answers that 01 gives, written from 01 and not by this code, then the wipe's.
+// the answers that 01 gives, written from 01 and not by this code, then the wipe's. Assumes that the kit's write does what it says.
 use ledger::Called;
 use ledger::Ledger;
 use ledger::Opened;
-use libc::STDOUT_FILENO;
-use range_bitset::Counted;
-use range_bitset::Found;
 use range_bitset::RangeBitset;
-
-fn say(text: &[u8]) {
-    io::write_all(STDOUT_FILENO, text);
-}
-
-fn say_number(number: u64) {
-    io::print_decimal(STDOUT_FILENO, number);
-    say(b"\n");
-}
-
-fn say_refused(number: u8) {
-    say(b"refused ");
-    say_number(number as u64);
-}
-
-fn say_counted(answer: Counted) {
-    match answer {
-        Counted::Count(n) => say_number(n as u64),
-        Counted::Refused(k) => say_refused(k),
-    }
-}
-
-fn say_found(answer: Found) {
-    match answer {
-        Found::At(i) => say_number(i as u64),
-        Found::Nothing => say(b"none\n"),
-        Found::Refused(k) => say_refused(k),
-    }
-}
 
 // Says a call's answer and gives the head after it.
 fn said(got: Called) -> Ledger {
     let answer = got.answer;
     let head = got.head;
-    say_counted(answer);
+    say::counted(answer);
     head
 }
 
@@ -49,15 +17,15 @@ fn said(got: Called) -> Ledger {
 fn new(capacity: usize, limit: usize, storage: &[u64], journal: &[u32]) -> Ledger {
     match Ledger::new(capacity, limit, storage, journal) {
         Opened::Head(head) => {
-            say_number(0);
+            say::number(0);
             head
         }
         Opened::Refused(k) => {
-            say_refused(k);
+            say::refused(k);
             none()
         }
         Opened::BadRun(_) => {
-            say_refused(8);
+            say::refused(8);
             none()
         }
     }
@@ -85,8 +53,8 @@ fn marked(head: Ledger, storage: &mut [u64], journal: &mut [u32]) -> Ledger {
 fn filled(head: Ledger, storage: &mut [u64], journal: &mut [u32]) -> Ledger {
     let head = said(ledger_lent::mark_through(head, storage, journal, 0, 128, true));
     let set = head.set;
-    say_found(set.next_zero(storage, 0, 128));
-    say_counted(set.count(storage, 64, 128));
+    say::found(set.next_zero(storage, 0, 128));
+    say::counted(set.count(storage, 64, 128));
     head
 }
 
@@ -94,9 +62,9 @@ fn filled(head: Ledger, storage: &mut [u64], journal: &mut [u32]) -> Ledger {
 fn taken_back(head: Ledger, storage: &mut [u64], journal: &[u32]) -> Ledger {
     let head = said(ledger_lent::take_back_through(head, storage, journal));
     let set = head.set;
-    say_found(set.next_one(storage, 0, 128));
-    say_found(set.next_zero(storage, 10, 128));
-    say_counted(set.count(storage, 0, 128));
+    say::found(set.next_one(storage, 0, 128));
+    say::found(set.next_zero(storage, 10, 128));
+    say::counted(set.count(storage, 0, 128));
     head
 }
 
@@ -112,8 +80,8 @@ fn mixed(head: Ledger, storage: &mut [u64], journal: &mut [u32]) -> Ledger {
     let first = two.first;
     let second = two.second;
     let last = two.head;
-    say_counted(first);
-    say_counted(second);
+    say::counted(first);
+    say::counted(second);
     said(ledger_lent::mark_through(last, storage, journal, 1, 4, true))
 }
 

@@ -1,64 +1,24 @@
 // Runs 01's cases that have no star, by the set and then by the ledger, and prints each answer. `stdout` has the answers that
 // 01 gives, written from 01 and not by this code. The storage and the journal start with numbers that mean nothing: a fresh
-// set or ledger believes none of them.
+// set or ledger believes none of them. Assumes that the kit's write does what it says.
 use ledger::Called;
 use ledger::Ledger;
 use ledger::Opened;
-use libc::STDOUT_FILENO;
 use range_bitset::Assigned;
-use range_bitset::Counted;
-use range_bitset::Found;
 use range_bitset::Made;
 use range_bitset::RangeBitset;
-use range_bitset::Tested;
 use range_bitset::Updated;
-
-fn say(text: &[u8]) {
-    io::write_all(STDOUT_FILENO, text);
-}
-
-fn say_number(number: u64) {
-    io::print_decimal(STDOUT_FILENO, number);
-    say(b"\n");
-}
-
-fn say_refused(number: u8) {
-    say(b"refused ");
-    say_number(number as u64);
-}
-
-fn say_counted(answer: Counted) {
-    match answer {
-        Counted::Count(n) => say_number(n as u64),
-        Counted::Refused(k) => say_refused(k),
-    }
-}
-
-fn say_tested(answer: Tested) {
-    match answer {
-        Tested::Is(b) => say_number(if b { 1 } else { 0 }),
-        Tested::Refused(k) => say_refused(k),
-    }
-}
-
-fn say_found(answer: Found) {
-    match answer {
-        Found::At(i) => say_number(i as u64),
-        Found::Nothing => say(b"none\n"),
-        Found::Refused(k) => say_refused(k),
-    }
-}
 
 // Says the capacity of a new set, or why there is none. A refused one gives a head that every call refuses.
 fn new(name: &[u8], capacity: usize) -> RangeBitset {
-    say(name);
+    say::text(name);
     match RangeBitset::new(capacity) {
         Made::Head(head) => {
-            say_counted(head.capacity());
+            say::counted(head.capacity());
             head
         }
         Made::Refused(k) => {
-            say_refused(k);
+            say::refused(k);
             RangeBitset {
                 words: 0,
                 len: 0,
@@ -72,16 +32,16 @@ fn new(name: &[u8], capacity: usize) -> RangeBitset {
 fn assigned(name: &[u8], got: Assigned) -> RangeBitset {
     let answer = got.answer;
     let head = got.head;
-    say(name);
-    say_counted(answer);
+    say::text(name);
+    say::counted(answer);
     head
 }
 
 fn updated(name: &[u8], got: Updated) -> RangeBitset {
     let answer = got.answer;
     let head = got.head;
-    say(name);
-    say_tested(answer);
+    say::text(name);
+    say::tested(answer);
     head
 }
 
@@ -89,8 +49,8 @@ fn updated(name: &[u8], got: Updated) -> RangeBitset {
 fn over_a_border(storage: &mut [u64]) {
     let head = new(b"new 8192: ", 8192);
     let head = assigned(b"set 4032..4160: ", head.assign(storage, 4032, 4160, true));
-    say(b"count 4095..4097: ");
-    say_counted(head.count(storage, 4095, 4097));
+    say::text(b"count 4095..4097: ");
+    say::counted(head.count(storage, 4095, 4097));
 }
 
 // One block of a full set cleared.
@@ -101,10 +61,10 @@ fn a_block_cleared(storage: &mut [u64]) {
         b"clear 4096..8192: ",
         head.assign(storage, 4096, 8192, false),
     );
-    say(b"next_zero 0..16384: ");
-    say_found(head.next_zero(storage, 0, 16384));
-    say(b"next_one 4096..16384: ");
-    say_found(head.next_one(storage, 4096, 16384));
+    say::text(b"next_zero 0..16384: ");
+    say::found(head.next_zero(storage, 0, 16384));
+    say::text(b"next_one 4096..16384: ");
+    say::found(head.next_one(storage, 4096, 16384));
 }
 
 // The largest set, filled and emptied.
@@ -118,8 +78,8 @@ fn emptied(storage: &mut [u64]) -> RangeBitset {
 fn set_again(storage: &mut [u64]) {
     let head = emptied(storage);
     let head = updated(b"set 4095: ", head.set(storage, 4095, true));
-    say(b"population: ");
-    say_counted(head.len());
+    say::text(b"population: ");
+    say::counted(head.len());
 }
 
 fn not_allowed() {
@@ -131,16 +91,16 @@ fn not_allowed() {
 
 // Says 0 for a new ledger, or why there is none. A refused one gives a head that every call refuses.
 fn began(name: &[u8], got: Opened) -> Ledger {
-    say(name);
+    say::text(name);
     match got {
         Opened::Head(head) => {
-            say_number(0);
+            say::number(0);
             return head;
         }
-        Opened::Refused(k) => say_refused(k),
+        Opened::Refused(k) => say::refused(k),
         Opened::BadRun(index) => {
-            say(b"refused 8, run ");
-            say_number(index as u64);
+            say::text(b"refused 8, run ");
+            say::number(index as u64);
         }
     }
     Ledger {
@@ -158,8 +118,8 @@ fn began(name: &[u8], got: Opened) -> Ledger {
 fn called(name: &[u8], got: Called) -> Ledger {
     let answer = got.answer;
     let head = got.head;
-    say(name);
-    say_counted(answer);
+    say::text(name);
+    say::counted(answer);
     head
 }
 
@@ -171,8 +131,8 @@ fn border_marked(storage: &mut [u64], journal: &mut [u32]) -> Ledger {
         head.mark(storage, journal, 4032, 4160),
     );
     let set = head.set;
-    say(b"count 4095..4097: ");
-    say_counted(set.count(storage, 4095, 4097));
+    say::text(b"count 4095..4097: ");
+    say::counted(set.count(storage, 4095, 4097));
     head
 }
 
@@ -211,8 +171,8 @@ fn marked_again(storage: &mut [u64], journal: &mut [u32]) -> Ledger {
         head.mark_point(storage, journal, 4095),
     );
     let set = head.set;
-    say(b"population: ");
-    say_counted(set.len());
+    say::text(b"population: ");
+    say::counted(set.len());
     head
 }
 

@@ -2,7 +2,8 @@
 // is the list, one call a line (oracle/src/lists.rs has the format), and the file `stdout` has the Rust's own answers. A refused
 // call prints `refused` and the number, and a line with another letter `bad line`: the Rust answers neither.
 //
-// The list is read byte by byte, so that a line is never longer than its four parts.
+// The list is read byte by byte, so that a line is never longer than its four parts. Assumes that the kit's read and write do
+// what they say, and that a list's numbers have at most nine digits.
 use range_bitset::Assigned;
 use range_bitset::Counted;
 use range_bitset::Found;
@@ -50,8 +51,8 @@ fn blank() -> Line {
     }
 }
 
-// `number` with one more digit. The digits' bytes are 48 to 57, so their last four bits are the digit; a list's numbers have
-// at most nine digits.
+// `number` with one more digit. The digits' bytes are 48 to 57, so their last four bits are the digit; of a number
+// with more than nine digits the first ones are lost.
 fn grown(number: usize, byte: u8) -> usize {
     number % 100000000 * 10 + (byte % 16) as usize
 }
@@ -219,21 +220,11 @@ fn performed(head: RangeBitset, storage: &mut [u64], line: Line) -> Done {
 
 fn print(said: Said) {
     match said {
-        Said::Number(n) => {
-            io::print_decimal(1, n);
-        }
-        Said::Nothing => {
-            io::write_all(1, &[b'-']);
-        }
-        Said::Refused(k) => {
-            io::write_all(1, b"refused ");
-            io::print_decimal(1, k as u64);
-        }
-        Said::Bad => {
-            io::write_all(1, b"bad line");
-        }
+        Said::Number(n) => say::number(n),
+        Said::Nothing => say::text(b"-\n"),
+        Said::Refused(k) => say::refused(k),
+        Said::Bad => say::text(b"bad line\n"),
     }
-    io::write_all(1, &[b'\n']);
 }
 
 // One byte of the list. A newline ends the line: its call is made and its answer printed.
