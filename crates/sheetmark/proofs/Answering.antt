@@ -46,7 +46,14 @@ serves-more (line k b r) h a = line k b (serves-more r h a)
 -- a line that means the same is answered the same
 abbrev answers-same : (l k : List ℕ) (s t : State) → meaning l ≡ meaning k → AnswersLine l s t → AnswersLine k s t
 answers-same l k s t e a =
-    record { answer = a .answer; performs = rw e at (a .performs); output = a .output; filled-to = a .filled-to }
+    record {
+      answer = a .answer;
+      performs = rw e at (a .performs);
+      same-storage = a .same-storage;
+      same-journal = a .same-journal;
+      output = a .output;
+      filled-to = a .filled-to;
+    }
 
 -- ---- answers one behind the other
 

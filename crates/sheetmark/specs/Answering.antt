@@ -34,6 +34,8 @@ stateOf s out storage journal = state s (now out) (now storage) (now journal)
 pub record AnswersLine (bytes : List ℕ) (s t : State) : Type 0 where
   pub answer : Answer
   pub performs : Performs (meaning bytes) (s .live) (s .ledger) answer (t .live) (t .ledger)
+  pub same-storage : length (t .ledger .storage) ≡ length (s .ledger .storage)
+  pub same-journal : length (t .ledger .journal) ≡ length (s .ledger .journal)
   pub output : t .out ≡ outAfter (s .out) (s .filled) answer
   pub filled-to : t .filled ≡ usedAfter (s .out) (s .filled) answer
 

@@ -30,6 +30,8 @@ returns c =
       record {
         answer = p .result .answer;
         performs = performed _ _ _ _ _ _ _ (sym (c .before .before .before .before .before .before .before .before .before .before .before .before .before .parse .ensures)) (p .ensures);
+        same-storage = search needs;
+        same-journal = search needs;
         output = e .1;
         filled-to = e .0;
       },
