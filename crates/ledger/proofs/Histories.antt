@@ -31,7 +31,7 @@ headOr h (opened.Refused k) = h
 headOr h (opened.BadRun i) = h
 
 module _ (capacity j : ℕ) (st journal : List ℕ) where
-  holds-fresh : (allowedCapacity capacity && leb j 16384) ≡ true → lentEnough (capacity / 64) j (length st) (length journal) ≡ true
+  pub holds-fresh : (allowedCapacity capacity && leb j 16384) ≡ true → lentEnough (capacity / 64) j (length st) (length journal) ≡ true
       → Holds (memory (newHead (capacity / 64) j false) st journal) (fresh capacity j)
   unfolding allowedCapacity goodLedger lentRefusal used setOf
   holds-fresh p q =
@@ -83,7 +83,7 @@ chain-holds x z m cs rs h (call {y = y} {c = c} {cs = ds} {rs = qs} s t) = chain
 -- ---- what can be asked afterwards
 
 module _ (x : Memory) (m : Machine) (h : Holds x m) where
-  accepted : storageRefusal (x .head .set) (length (x .storage)) ≡ 0
+  pub accepted : storageRefusal (x .head .set) (length (x .storage)) ≡ 0
   accepted =
       let a = lent-accepted (x .head) (length (x .storage)) (length (x .journal)) (h .lent) in
       set-accepts (x .head) (length (x .storage)) (a .good) (a .long)

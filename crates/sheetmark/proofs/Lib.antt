@@ -1,3 +1,4 @@
 -- The program's laws. Assumes nothing.
 pub mod Performing
 pub mod Answering
+pub mod Program

@@ -1,0 +1,158 @@
+-- A run of the program is the plain program's: one command, lines, the parts of an input. Assumes nothing.
+use mathlib.Core.Path.{_≡_, refl, sym, ap, _∙_, subst, ap₂}
+use mathlib.Core.Bool.{Bool, true, false, _&&_, cond, true≢false}
+use mathlib.Core.List.{List, [], _∷_, _++_}
+use Prim.Native.Nat.{ℕ, _+_, _*_, _/_, _%_, _≤_, _<_}
+use native.Mathlib.Omega.{arith}
+use lib.Dec.{eqb, leb}
+use lib.ListN.{length}
+use borrow.Author.Tests.{le-leb, leb-true, leb-false}
+use Rattle.positions.specs.Positions.{Positions, count, first}
+use Rattle.positions.proofs.Bools.{and-left, and-right}
+use Rattle.range_bitset.specs.Layout.{allowed, needed}
+use Rattle.range_bitset.specs.Represents.{capacityOf}
+use Rattle.range_bitset.specs.Answers.{Reply, Number, Nothing, Refusal, refused, ofFound, allowedCapacity, rangeRefusal}
+use Rattle.range_bitset.specs.Entries.{Answers}
+use Rattle.ledger.specs.Machine.{Machine, fresh, setOf, Call, Range, Back, Wipe, step}
+use Rattle.ledger.specs.Memory.{Memory, memory, lentEnough, Holds}
+use Rattle.ledger.specs.Entries.{newHead, newOf}
+use Rattle.ledger.specs.declared.Opened.{Opened}
+use Rattle.ledger.specs.declared.Opened.the-variants as opened
+use Rattle.range_bitset.proofs.Heads.{allowed-bounds}
+use Rattle.ledger.proofs.Histories.{holds-fresh, accepted}
+use Rattle.command_lines.specs.declared.Command.{Command}
+use Rattle.command_lines.specs.declared.Command.the-variants as command
+use Rattle.command_lines.specs.declared.Answer.{Answer}
+use Rattle.command_lines.specs.declared.Answer.the-variants as answer
+use Rattle.command_lines.specs.Lines.{meaning}
+use Rattle.command_lines.specs.Input.{lines, linesFrom}
+use Rattle.sheetmark.specs.Performing.{answerOf, low32, IsBad, Starts, Calls, Asks, Seeks, Performs}
+use Rattle.sheetmark.specs.Answering.{State, AnswersLine, withRoom, Serves, none, line, texts, Parts, Ends}
+use Rattle.sheetmark.specs.Program.{Present, NoLedger, With, Response, started, called, asked, ofPresent, respond, responses, presentAfter, Follows, Lent, writtenOut, Answered, end, part, joined, RunsAsPlain}
+
+-- ---- one command
+
+-- what a command comes to, where the plain program responds by r
+abbrev Comes : Response → Answer → Bool → Memory → Type 0
+Comes r a live y = (a ≡ r .answer) × Follows (r .next) live y
+
+follows-same : (p : Present) (live live′ : Bool) (x y : Memory) → live′ ≡ live → y ≡ x → Follows p live x → Follows p live′ y
+follows-same NoLedger live live′ x y e q f = e ∙ f
+follows-same (With m) live live′ x y e q f = (e ∙ f .0, subst (λ (z : Memory). Holds z m) (sym q) (f .1))
+
+-- where enough is lent, `new` is refused by 1 alone
+enough-lent : (capacity j n k : ℕ) → (allowedCapacity capacity && leb j 16384) ≡ true → 4290 ≤ n → 16384 ≤ k → lentEnough (capacity / 64) j n k ≡ true
+unfolding lentEnough allowedCapacity
+enough-lent capacity j n k e hn hk =
+    let good : allowedCapacity capacity ≡ true = and-left (allowedCapacity capacity) (leb j 16384) e in
+    let most = allowed-bounds (capacity / 64) (and-right (eqb (capacity % 64) 0) (allowed (capacity / 64)) good) .1 in
+    let short = leb-true j 16384 (and-right (allowedCapacity capacity) (leb j 16384) e) in
+    rw (le-leb (needed (capacity / 64)) n (omega arith), le-leb j k (omega arith))
+
+started-as : (p : Present) (capacity j : ℕ) (live live′ : Bool) (x y : Memory) (a : Answer) → Follows p live x → Lent x
+    → Starts (newOf capacity j (length (x .storage)) (length (x .journal))) live x a live′ y → Comes (started p capacity j) a live′ y
+unfolding newOf
+started-as p capacity j live live′ x y a f e q = go (allowedCapacity capacity && leb j 16384) refl q
+  where
+    go : (b : Bool) → (allowedCapacity capacity && leb j 16384) ≡ b
+        → Starts (cond b (cond (lentEnough (capacity / 64) j (length (x .storage)) (length (x .journal))) (opened.Head (newHead (capacity / 64) j false)) (opened.Refused 3)) (opened.Refused 1)) live x a live′ y
+        → Comes (cond b (record { answer = answer.Number 0; next = With (fresh capacity j) }) (record { answer = answer.Refused 1; next = p })) a live′ y
+    go false d s = (s .0, follows-same p live live′ x y (s .1) (s .2) f)
+    go true d s =
+        let l = enough-lent capacity j (length (x .storage)) (length (x .journal)) d (e .storage) (e .journal) in
+        let r : Starts (opened.Head (newHead (capacity / 64) j false)) live x a live′ y =
+        subst (λ (b : Bool). Starts (cond b (opened.Head (newHead (capacity / 64) j false)) (opened.Refused 3)) live x a live′ y) l s in
+        (r .0, (r .1, subst (λ (z : Memory). Holds z (fresh capacity j)) (sym (r .2)) (holds-fresh capacity j (x .storage) (x .journal) d l)))
+
+-- the calls and questions of the present ledger
+refusal-is : (r : Reply) → refused r ≡ 4 → r ≡ Refusal 4
+refusal-is (Number n) e = absurd (omega (arith, e))
+refusal-is Nothing e = absurd (omega (arith, e))
+refusal-is (Refusal k) e = ap Refusal e
+
+module _ (m : Machine) (x y : Memory) (a : Answer) (live′ : Bool) (h : Holds x m) where
+  calls-as : (c : Call) → Calls c x a live′ y → Comes (called c m) a live′ y
+  calls-as c k = (k .told ∙ ap answerOf (k .called .answers m h), (k .same-live, k .called .holds m h))
+
+  range-as : (e : ℕ) → rangeRefusal (x .head .set) (length (x .storage)) e ≡ cond (leb e (m .capacity)) 0 4
+  unfolding rangeRefusal
+  range-as e = rw (accepted x m h, h .capacity)
+
+  module _ (e : ℕ) (f : Positions → Reply) where
+    asks-as : Asks (rangeRefusal (x .head .set) (length (x .storage)) e) x f a live′ y → Comes (asked e (f (setOf m)) m) a live′ y
+    asks-as k = (go (leb e (m .capacity)) (range-as e), (k .same-live, subst (λ (z : Memory). Holds z m) (sym (k .same)) h))
+      where
+        go : (b : Bool) → rangeRefusal (x .head .set) (length (x .storage)) e ≡ cond b 0 4 → a ≡ answerOf (cond b (f (setOf m)) (Refusal 4))
+        go true z = k .told ∙ ap answerOf (k .answers .answers z (setOf m) (h .set))
+        go false z = k .told ∙ ap answerOf (refusal-is (k .reply) (k .answers .refuses ∙ z))
+
+    seeks-as : Seeks (rangeRefusal (x .head .set) (length (x .storage)) e) x f a live′ y → Comes (asked e (f (setOf m)) m) a live′ y
+    seeks-as k = (go (leb e (m .capacity)) (range-as e), (k .same-live, subst (λ (z : Memory). Holds z m) (sym (k .same)) h))
+      where
+        go : (b : Bool) → rangeRefusal (x .head .set) (length (x .storage)) e ≡ cond b 0 4 → a ≡ answerOf (cond b (f (setOf m)) (Refusal 4))
+        go true z = k .whole z (setOf m) (h .set)
+        go false z = k .told ∙ ap (λ (r : Reply). answerOf (low32 r)) (refusal-is (k .reply) (k .answers .refuses ∙ z))
+
+module _ (live live′ : Bool) (x y : Memory) (a : Answer) where
+  before : IsBad false x a live′ y → Comes (record { answer = answer.BadLine; next = NoLedger }) a live′ y
+  before k = (k .bad, k .same-live)
+
+  -- Performs, where `live` is known
+  known : (c : Command) (b : Bool) → live ≡ b → Performs c live x a live′ y → Performs c b x a live′ y
+  known c b e q = subst (λ (l : Bool). Performs c l x a live′ y) e q
+
+  pub performs-follows : (c : Command) (p : Present) → Follows p live x → Lent x → Performs c live x a live′ y → Comes (respond c p) a live′ y
+  performs-follows (command.New capacity j) p f e q = started-as p capacity j live live′ x y a f e q
+  performs-follows (command.Mark s t) NoLedger f e q = before (known (command.Mark s t) false f q)
+  performs-follows (command.Mark s t) (With m) f e q = calls-as m x y a live′ (f .1) (Range s t true) (known (command.Mark s t) true (f .0) q)
+  performs-follows (command.Clear s t) NoLedger f e q = before (known (command.Clear s t) false f q)
+  performs-follows (command.Clear s t) (With m) f e q = calls-as m x y a live′ (f .1) (Range s t false) (known (command.Clear s t) true (f .0) q)
+  performs-follows (command.Count s t) NoLedger f e q = before (known (command.Count s t) false f q)
+  performs-follows (command.Count s t) (With m) f e q =
+      asks-as m x y a live′ (f .1) t (λ (o : Positions). Number (count o s t)) (known (command.Count s t) true (f .0) q)
+  performs-follows (command.One s t) NoLedger f e q = before (known (command.One s t) false f q)
+  performs-follows (command.One s t) (With m) f e q =
+      seeks-as m x y a live′ (f .1) t (λ (o : Positions). ofFound (first o true s t)) (known (command.One s t) true (f .0) q)
+  performs-follows (command.Zero s t) NoLedger f e q = before (known (command.Zero s t) false f q)
+  performs-follows (command.Zero s t) (With m) f e q =
+      seeks-as m x y a live′ (f .1) t (λ (o : Positions). ofFound (first o false s t)) (known (command.Zero s t) true (f .0) q)
+  performs-follows command.Back NoLedger f e q = before (known command.Back false f q)
+  performs-follows command.Back (With m) f e q = calls-as m x y a live′ (f .1) Back (known command.Back true (f .0) q)
+  performs-follows command.Wipe NoLedger f e q = before (known command.Wipe false f q)
+  performs-follows command.Wipe (With m) f e q = calls-as m x y a live′ (f .1) Wipe (known command.Wipe true (f .0) q)
+  performs-follows command.Bad NoLedger f e q = before (known command.Bad false f q)
+  performs-follows command.Bad (With m) f e q =
+      let k = known command.Bad true (f .0) q in
+      (k .bad, (k .same-live, subst (λ (z : Memory). Holds z m) (sym (k .same)) (f .1)))
+
+-- ---- lines
+
+lent-next : (l : List ℕ) (s t : State) → AnswersLine l (withRoom s) t → Lent (s .ledger) → Lent (t .ledger)
+lent-next l s t a e = record { storage = omega (arith, a .same-storage, e .storage); journal = omega (arith, a .same-journal, e .journal) }
+
+pub serves-follows : {s t : State} {ls : List (List ℕ)} {rs : List Answer} → Serves s ls rs t → (p : Present) → Follows p (s .live) (s .ledger) → Lent (s .ledger)
+    → (rs ≡ responses p ls) × Follows (presentAfter p ls) (t .live) (t .ledger) × Lent (t .ledger)
+serves-follows none p f e = (refl, f, e)
+serves-follows {s = s} (line {t = t} {l = l} h a r) p f e =
+    let c = performs-follows (s .live) (t .live) (s .ledger) (t .ledger) (a .answer) (meaning l) p f e (a .performs) in
+    let i = serves-follows r (respond (meaning l) p .next) (c .1) (lent-next l s t a e) in
+    (ap₂ _∷_ (c .0) (i .0), i .1, i .2)
+
+-- ---- parts of an input
+
+responses-append : (p : Present) (ls ms : List (List ℕ)) → responses p (ls ++ ms) ≡ responses p ls ++ responses (presentAfter p ls) ms
+responses-append p [] ms = refl
+responses-append p (l ∷ ls) ms = ap (λ (rs : List Answer). respond (meaning l) p .answer ∷ rs) (responses-append (respond (meaning l) p .next) ls ms)
+
+answered-follows : {s t : State} {l : List ℕ} {ts : List (List ℕ)} {rs : List Answer} → Answered s l ts rs t → (p : Present) → Follows p (s .live) (s .ledger)
+    → Lent (s .ledger) → rs ≡ responses p (linesFrom l (joined ts))
+unfolding linesFrom
+answered-follows (end e) p f n = serves-follows (e .serves) p f n .0
+answered-follows (part {ts = ts} q r) p f n =
+    let i = serves-follows (q .serves) p f n in
+    ap₂ _++_ (i .0) (answered-follows r (presentAfter p (q .finished)) (i .1) (i .2))
+    ∙ sym (responses-append p (q .finished) (linesFrom (q .rest) (joined ts)))
+    ∙ ap (responses p) (sym (q .cut (joined ts)))
+
+pub runs-as-plain : RunsAsPlain
+runs-as-plain s t parts rs l e r = let q = answered-follows r NoLedger l e in (q, ap texts q)

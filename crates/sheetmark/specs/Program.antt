@@ -1,0 +1,107 @@
+-- 01's `sheetmark`, plainly: what is printed for an input, by the ledger's plain machine alone; and when a run of the program
+-- follows it. Assumes nothing.
+use mathlib.Core.Path.{_≡_}
+use mathlib.Core.Bool.{Bool, true, false, _&&_, cond}
+use mathlib.Core.List.{List, [], _∷_, _++_}
+use Prim.Native.Nat.{ℕ, _≤_}
+use lib.Dec.{leb}
+use lib.ListN.{length}
+use Rattle.positions.specs.Positions.{count, first}
+use Rattle.range_bitset.specs.Answers.{Reply, Number, Refusal, ofFound, allowedCapacity}
+use Rattle.ledger.specs.Machine.{Machine, fresh, setOf, Call, Range, Back, Wipe, step}
+use Rattle.ledger.specs.Memory.{Memory, Holds}
+use Rattle.command_lines.specs.declared.Command.{Command}
+use Rattle.command_lines.specs.declared.Command.the-variants as command
+use Rattle.command_lines.specs.declared.Answer.{Answer}
+use Rattle.command_lines.specs.declared.Answer.the-variants as answer
+use Rattle.command_lines.specs.Lines.{meaning}
+use Rattle.command_lines.specs.Input.{lines}
+use Rattle.sheetmark.specs.Performing.{answerOf}
+use Rattle.sheetmark.specs.Answering.{State, texts, Parts, Ends}
+
+-- ---- the plain program
+
+-- the present ledger, as its machine; before an accepted `new` there is none
+pub data Present : Type 0 where
+  NoLedger : Present
+  With : Machine → Present
+
+-- what is printed for a command, and the present ledger afterwards
+pub record Response : Type 0 where
+  pub answer : Answer
+  pub next : Present
+
+-- `new` prints 0 and starts a fresh ledger; a refused one keeps the present ledger
+abbrev pub started : Present → ℕ → ℕ → Response
+started p capacity j =
+    cond (allowedCapacity capacity && leb j 16384) (record { answer = answer.Number 0; next = With (fresh capacity j) })
+    (record { answer = answer.Refused 1; next = p })
+
+-- a call of the machine; a question about its set, refused 4 where the end is above the capacity
+abbrev pub called : Call → Machine → Response
+called c m = record { answer = answerOf (step m c .answer); next = With (step m c .next) }
+
+abbrev pub asked : ℕ → Reply → Machine → Response
+asked e r m = record { answer = answerOf (cond (leb e (m .capacity)) r (Refusal 4)); next = With m }
+
+-- a command before an accepted `new` is a bad line
+abbrev pub ofPresent : Present → (Machine → Response) → Response
+ofPresent NoLedger f = record { answer = answer.BadLine; next = NoLedger }
+ofPresent (With m) f = f m
+
+abbrev pub respond : Command → Present → Response
+respond (command.New capacity j) p = started p capacity j
+respond (command.Mark s e) p = ofPresent p (called (Range s e true))
+respond (command.Clear s e) p = ofPresent p (called (Range s e false))
+respond (command.Count s e) p = ofPresent p (λ m. asked e (Number (count (setOf m) s e)) m)
+respond (command.One s e) p = ofPresent p (λ m. asked e (ofFound (first (setOf m) true s e)) m)
+respond (command.Zero s e) p = ofPresent p (λ m. asked e (ofFound (first (setOf m) false s e)) m)
+respond command.Back p = ofPresent p (called Back)
+respond command.Wipe p = ofPresent p (called Wipe)
+respond command.Bad p = record { answer = answer.BadLine; next = p }
+
+-- the answers to a list of lines, in their order, and the present ledger after them
+abbrev pub responses : Present → List (List ℕ) → List Answer
+responses p [] = []
+responses p (l ∷ ls) = respond (meaning l) p .answer ∷ responses (respond (meaning l) p .next) ls
+
+abbrev pub presentAfter : Present → List (List ℕ) → Present
+presentAfter p [] = p
+presentAfter p (l ∷ ls) = presentAfter (respond (meaning l) p .next) ls
+
+-- what the program prints for an input
+abbrev pub outputFor : List ℕ → List ℕ
+outputFor input = texts (responses NoLedger (lines input))
+
+-- ---- a run of the program
+
+-- the program's state is that of the plain program, and it is lent enough for every ledger
+abbrev pub Follows : Present → Bool → Memory → Type 0
+Follows NoLedger live x = live ≡ false
+Follows (With m) live x = (live ≡ true) × Holds x m
+
+pub record Lent (x : Memory) : Type 0 where
+  pub storage : 4290 ≤ length (x .storage)
+  pub journal : 16384 ≤ length (x .journal)
+
+-- written out, so that the output is filled from 0 again
+abbrev pub writtenOut : State → State
+writtenOut s = record { live = s .live; ledger = s .ledger; out = s .out; filled = 0 }
+
+-- the parts of an input answered one after the other, each with the bytes of a line that came before it, and then the
+-- input's end; the output is written out after each part
+pub data Answered : State → List ℕ → List (List ℕ) → List Answer → State → Type 0 where
+  end : {s t : State} {l : List ℕ} → (e : Ends l s t) → Answered s l [] (e .answers) t
+  part : {s t u : State} {l text : List ℕ} {ts : List (List ℕ)} {rs : List Answer} {kept : ℕ} {buffer : List ℕ}
+      → (p : Parts text l s t kept buffer) → Answered (writtenOut t) (p .rest) ts rs u → Answered s l (text ∷ ts) (p .answers ++ rs) u
+
+-- the whole input
+abbrev pub joined : List (List ℕ) → List ℕ
+joined [] = []
+joined (t ∷ ts) = t ++ joined ts
+
+-- for every input and however it comes in parts: the answers are the plain program's, and their text is what it prints
+abbrev pub RunsAsPlain : Type 0
+RunsAsPlain =
+    (s t : State) (parts : List (List ℕ)) (rs : List Answer) → s .live ≡ false → Lent (s .ledger) → Answered s [] parts rs t
+    → (rs ≡ responses NoLedger (lines (joined parts))) × (texts rs ≡ outputFor (joined parts))
