@@ -6,7 +6,6 @@ use Prim.Native.Nat.{ℕ, _+_, _*_, _/_, _%_, _^_, _≤_, _<_}
 use native.Mathlib.Omega.{arith}
 use lib.Dec.{eqb}
 use lib.Count.{ones}
-use lib.ListN.{length, drop}
 use borrow.Author.Tests.{eq-eqb, ne-eqb, eqb-true, eqb-false}
 use Rattle.positions.specs.Positions.{Positions, assigned, changedCount}
 use Rattle.positions.proofs.Ranges.{Place, inside, before, behind, place}
@@ -14,11 +13,11 @@ use Rattle.positions.proofs.Counts.{count-swap}
 use Rattle.positions.proofs.Assigned.{assigned-before, assigned-behind, changed-apart}
 use Rattle.bits.specs.Bit.{mask, put}
 use Rattle.bits.proofs.Words.{mask-ext, put-one}
-use Rattle.range_bitset.specs.Layout.{blocks, needed, wordsOf, at, word, nonzero, full, population, topNonzero, topFull, Slot}
+use Rattle.range_bitset.specs.Layout.{blocks, wordsOf, at, word, nonzero, full, population, topNonzero, topFull, Slot}
 use Rattle.range_bitset.specs.Read.{ALL, mixedRead}
 use Rattle.range_bitset.specs.Represents.{wordOf, anyWord, allWord, nonzeroMask, fullMask, blockCount, only, masked, Holds}
-use Rattle.range_bitset.specs.Inner.{Room, Spans, apart, moved, In, stores, find, writeWord, countMoved, Opens, Closes, Kept, Assigns}
-use Rattle.range_bitset.proofs.Slots.{stores-at, stores-kept, stores-long}
+use Rattle.range_bitset.specs.Inner.{Room, Spans, apart, moved, In, stores, find, AllIn, writeWord, countMoved, Opens, Closes, Kept, Assigns}
+use Rattle.range_bitset.proofs.Slots.{leaves-at, twice-at, twice-kept}
 use Rattle.range_bitset.proofs.Words.{in-block, word-same, word-ones, ones-most, block-most, mixed-is}
 use Rattle.range_bitset.proofs.Opening.{open-here}
 use Rattle.range_bitset.proofs.Rewriting.{touches, rewrite-block}
@@ -99,10 +98,9 @@ module _ (W : ℕ) (st : List ℕ) (s s′ : Positions) (k : ℕ) (room : Room W
       ∙ cond-same (k / 64) _ _
       ∙ ap₂ (λ (x y : ℕ). put 64 x (2 ^ (k % 64)) (eqb y ALL)) (r .fulls (k / 64) (i .0) here) z
       ∙ mask-put (λ x. eqb x ALL))
-      (ap (λ (x : List ℕ). at W x (population (k / 64))) e₃
-      ∙ stores-at W st₂ long₂ (countMoved W st₂ (k / 64) (ones (wordOf s k)) (ones new)) (i .0, omega arith) (population (k / 64)) (i .0)
+      (now (population (k / 64)) (i .0)
       ∙ cond-same (k / 64) _ _
-      ∙ ap₂ (λ (x y : ℕ). moved x (ones (wordOf s k)) (ones y)) (now₂ (population (k / 64)) (i .0) ∙ r .counts (k / 64) (i .0) here) z
+      ∙ ap₂ (λ (x y : ℕ). moved x (ones (wordOf s k)) (ones y)) (leaves-at W st (room .long) (writeWord W st k new) written e₂ (population (k / 64)) (i .0) ∙ r .counts (k / 64) (i .0) here) z
       ∙ moves _ _ _ _ block-moved (omega (arith, ones-most s k)) (block-most W s′ (k / 64)) (block-most W s (k / 64)))
       (λ j h d a f. now (word j) h ∙ by j h d a f (eqb j k) refl)
     where
@@ -115,18 +113,14 @@ module _ (W : ℕ) (st : List ℕ) (s s′ : Positions) (k : ℕ) (room : Room W
       agree-b : (j : ℕ) → j < 64 * W → eqb (j / 4096) (k / 64) ≡ false → s′ j ≡ s j
       agree-b j h e = let n : j / 4096 ≡ k / 64 → ⊥ = eqb-false _ _ e in agree j (λ q. n (omega arith))
 
-      now₂ : (t : Slot) → In W t → at W st₂ t ≡ find (writeWord W st k new) t (at W st t)
-      now₂ t j = ap (λ (x : List ℕ). at W x t) e₂ ∙ stores-at W st (room .long) (writeWord W st k new) (i .0, (i .0, (l, omega arith))) t j
-
-      long₂ : needed W ≤ length st₂
-      long₂ = let q = ap length e₂ ∙ stores-long W st (writeWord W st k new) in let h = room .long in omega arith
+      written : AllIn W (writeWord W st k new)
+      written = (i .0, (i .0, (l, omega arith)))
 
       now : (t : Slot) → In W t
           → at W st₃ t ≡ find (countMoved W st₂ (k / 64) (ones (wordOf s k)) (ones new)) t (find (writeWord W st k new) t (at W st t))
       now t j =
-          ap (λ (x : List ℕ). at W x t) e₃
-          ∙ stores-at W st₂ long₂ (countMoved W st₂ (k / 64) (ones (wordOf s k)) (ones new)) (i .0, omega arith) t j
-          ∙ ap (find (countMoved W st₂ (k / 64) (ones (wordOf s k)) (ones new)) t) (now₂ t j)
+          twice-at W st (room .long) (writeWord W st k new) (countMoved W st₂ (k / 64) (ones (wordOf s k)) (ones new)) written (i .0, omega arith)
+          e₂ e₃ t j
 
       others : (t : Slot) → In W t → touches (k / 64) t ≡ false → at W st₃ t ≡ at W st t
       others (word j) h e =
@@ -156,7 +150,7 @@ pub word-assigned : (W k m : ℕ) (v : Bool) (st st₁ st₂ st₃ st₄ : List 
     → Closes W (k / 64) st₃ st₄
     → (a b : ℕ) → Spans m a b → a ≤ b → b ≤ 64 → Assigns W (64 * k + a) (64 * k + b) v st st₄ n
 word-assigned W k m v st st₁ st₂ st₃ st₄ old new n room l fit o eo en e₂ e₃ ed c a b sp h u =
-    assigns-by W (k / 64) X Y v st st₁ st₃ st₄ n o (kept₃ ∙ kept₂) c
+    assigns-by W (k / 64) X Y v st st₁ st₃ st₄ n o kept c
     (λ s t. write-holds W st₁ s (assigned s X Y v) k room l (agree s) st₂ st₃ new t (fresh s t) e₂
     (e₃ ∙ ap (λ (x : ℕ). stores W st₂ (countMoved W st₂ (k / 64) (ones x) (ones new))) (was s t)))
     (λ s t.
@@ -187,13 +181,7 @@ word-assigned W k m v st st₁ st₂ st₃ st₄ old new n room l fit o eo en e�
     fresh : (s : Positions) → Holds W st₁ s (only (k / 64)) → new ≡ wordOf (assigned s X Y v) k
     fresh s t = en ∙ ap (λ (x : ℕ). put 64 x m v) (was s t) ∙ put-word s k a b v m fit sp
 
-    kept₂ : Kept W st₁ st₂
-    kept₂ = ap (drop (needed W)) e₂ ∙ stores-kept W st₁ (room .long) (writeWord W st₁ k new) (i .0, (i .0, (l, omega arith)))
-
-    long₂ : needed W ≤ length st₂
-    long₂ = let q = ap length e₂ ∙ stores-long W st₁ (writeWord W st₁ k new) in let z = room .long in omega arith
-
-    kept₃ : Kept W st₂ st₃
-    kept₃ =
-        ap (drop (needed W)) e₃
-        ∙ stores-kept W st₂ long₂ (countMoved W st₂ (k / 64) (ones old) (ones new)) (i .0, omega arith)
+    kept : Kept W st₁ st₃
+    kept =
+        twice-kept W st₁ (room .long) (writeWord W st₁ k new) (countMoved W st₂ (k / 64) (ones old) (ones new))
+        (i .0, (i .0, (l, omega arith))) (i .0, omega arith) e₂ e₃

@@ -10,7 +10,7 @@ use Rattle.bits.proofs.Words.{mask-ext, mask-none}
 use Rattle.range_bitset.specs.Layout.{blocks, needed, at, topNonzero, topFull, Slot}
 use Rattle.range_bitset.specs.Represents.{wordOf, anyBlock, allBlock, closed, masked, Stored}
 use Rattle.range_bitset.specs.Inner.{Room, In, stores, find, beginning, Begins}
-use Rattle.range_bitset.proofs.Slots.{stores-at, stores-kept}
+use Rattle.range_bitset.proofs.Slots.{stores-at, leaves-kept}
 use Rattle.range_bitset.proofs.Words.{block-none, none-all-block}
 
 module _ (W : ℕ) (st : List ℕ) (room : Room W st) (s : Positions) (clear : (i : ℕ) → i < 64 * W → s i ≡ false) where
@@ -46,7 +46,7 @@ module _ (W : ℕ) (begun : Bool) (st st′ : List ℕ) where
   pub begins-fresh : Room W st → begun ≡ false → st′ ≡ stores W st beginning → Begins W begun st st′
   begins-fresh room f e =
       record {
-        kept = ap (drop (needed W)) e ∙ stores-kept W st (room .long) beginning (omega arith);
+        kept = leaves-kept W st (room .long) beginning (omega arith) e;
         holds = λ s p q. subst (λ (x : List ℕ). Stored W x s) (sym e) (begin-clear W st room s (q f));
       }
 

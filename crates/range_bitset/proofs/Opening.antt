@@ -15,7 +15,7 @@ use Rattle.range_bitset.specs.Read.{stateOf}
 use Rattle.range_bitset.specs.Represents.{wordOf, anyWord, allWord, valid, nonzeroMask, fullMask, blockCount, anyBlock, allBlock, closed, only, masked, Holds, Stored}
 use Rattle.range_bitset.specs.Inner.{Room, In, kind, index, Store, _≔_, stores, find, AllIn, openWith, closeClear, closeFull, Opens, Closes, Kept}
 use Rattle.range_bitset.specs.declared.State.the-variants.{Empty, Mixed, Full}
-use Rattle.range_bitset.proofs.Slots.{stores-at, stores-kept}
+use Rattle.range_bitset.proofs.Slots.{stores-at, leaves-kept}
 use Rattle.range_bitset.proofs.Words.{state-full, state-empty, state-mixed, full-words, full-nonzero, full-full, full-count, clear-words, clear-nonzero, clear-full, clear-count, none-all-block}
 
 -- what changes a truth at b alone, and there to what it is, changes nothing
@@ -190,7 +190,7 @@ module _ (W : ℕ) (st : List ℕ) (s : Positions) (b : ℕ) (room : Room W st) 
 
 module _ (W : ℕ) (b : ℕ) (st st′ : List ℕ) (room : Room W st) (l : b < blocks W) where
   kept-by : (us : List Store) → st′ ≡ stores W st us → AllIn W us → Kept W st st′
-  kept-by us e a = ap (drop (needed W)) e ∙ stores-kept W st (room .long) us a
+  kept-by us e a = leaves-kept W st (room .long) us a e
 
   pub closes-clear : at W st (nonzero b) ≡ 0 → st′ ≡ stores W st (closeClear W st b) → Closes W b st st′
   closes-clear z e =

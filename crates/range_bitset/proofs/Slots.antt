@@ -1,5 +1,5 @@
--- What a run of stores leaves at every slot: one law. Two slots of one address are the same slot, by one computation over `kind` and `index`.
--- Assumes nothing.
+-- What a run of stores leaves at every slot, and what two runs leave: one law each. Two slots of one address are the same
+-- slot, by one computation over `kind` and `index`. Assumes nothing.
 use mathlib.Core.Path.{_≡_, refl, ap, sym, _∙_}
 use mathlib.Core.Bool.{Bool, true, false, _&&_, cond, true≢false}
 use mathlib.Core.List.{List, [], _∷_}
@@ -96,7 +96,7 @@ same-false W s t i j e a = by (eqb (kind s) (kind t)) refl
         order true l = omega (arith, apart W s t i (ltb-true _ _ l))
         order false l = omega (arith, apart W t s j (lt-of-le-ne (ltb-false _ _ l) (λ q. eqb-false _ _ k (sym q))))
 
-pub stores-long : (W : ℕ) (st : List ℕ) (us : List Store) → length (stores W st us) ≡ length st
+stores-long : (W : ℕ) (st : List ℕ) (us : List Store) → length (stores W st us) ≡ length st
 stores-long W st [] = refl
 stores-long W st (u ∷ us) = length-set (stores W st us) (address W (u .slot)) (u .value) ∙ stores-long W st us
 
@@ -115,9 +115,29 @@ module _ (W : ℕ) (st : List ℕ) (long : needed W ≤ length st) where
           getD-set-other (stores W st us) (address W (u .slot)) (address W t) (u .value) 0 (same-false W t (u .slot) i (a .0) e)
           ∙ r
 
-  pub stores-kept : (us : List Store) → AllIn W us → drop (needed W) (stores W st us) ≡ drop (needed W) st
+  stores-kept : (us : List Store) → AllIn W us → drop (needed W) (stores W st us) ≡ drop (needed W) st
   stores-kept [] a = refl
   stores-kept (u ∷ us) a = drop-set-lt (needed W) (stores W st us) (address W (u .slot)) (u .value) (in-needed W (u .slot) (a .0)) ∙ stores-kept us (a .1)
+
+  -- the same of a storage that is what the run leaves
+  module _ (us : List Store) (a : AllIn W us) {st′ : List ℕ} (e : st′ ≡ stores W st us) where
+    leaves-long : needed W ≤ length st′
+    leaves-long = let q = ap length e ∙ stores-long W st us in omega arith
+
+    pub leaves-at : (t : Slot) → In W t → at W st′ t ≡ find us t (at W st t)
+    leaves-at t i = ap (λ (x : List ℕ). at W x t) e ∙ stores-at us a t i
+
+    pub leaves-kept : drop (needed W) st′ ≡ drop (needed W) st
+    leaves-kept = ap (drop (needed W)) e ∙ stores-kept us a
+
+-- two runs, the second on what the first leaves
+module _ (W : ℕ) (st : List ℕ) (long : needed W ≤ length st) (us vs : List Store) (a : AllIn W us) (b : AllIn W vs) {st₂ st₃ : List ℕ}
+    (e₂ : st₂ ≡ stores W st us) (e₃ : st₃ ≡ stores W st₂ vs) where
+  pub twice-at : (t : Slot) → In W t → at W st₃ t ≡ find vs t (find us t (at W st t))
+  twice-at t i = leaves-at W st₂ (leaves-long W st long us a e₂) vs b e₃ t i ∙ ap (find vs t) (leaves-at W st long us a e₂ t i)
+
+  pub twice-kept : drop (needed W) st₃ ≡ drop (needed W) st
+  twice-kept = leaves-kept W st₂ (leaves-long W st long us a e₂) vs b e₃ ∙ leaves-kept W st long us a e₂
 
 -- the number at a slot, and a bit of it, from what the slot's function, `has_bit` and the branch say
 pub read-bit : (st : List ℕ) (i : ℕ) {a a′ : ℕ} {r v : Bool} → a ≡ a′ → r ≡ bit (getD st a 0) i → r ≡ v → bit (getD st a′ 0) i ≡ v

@@ -9,7 +9,6 @@ use lib.Dec.{eqb}
 use lib.Count.{ones}
 use lib.Pow.{pow-mono}
 use native.Mathlib.Nat.{lt-of-lt-of-le}
-use lib.ListN.{length, drop}
 use borrow.Author.Tests.{eq-eqb, ne-eqb, eqb-false}
 use Rattle.positions.specs.Positions.{Positions, within, assigned, count}
 use Rattle.positions.proofs.Ranges.{Place, inside, before, behind, place, within-in, within-before, within-behind, within-shift}
@@ -17,11 +16,11 @@ use Rattle.positions.proofs.Counts.{count-swap, count-same, count-le}
 use Rattle.positions.proofs.Assigned.{assigned-before, assigned-behind, changed-apart}
 use Rattle.bits.specs.Bit.{bit, mask, put}
 use Rattle.bits.proofs.Words.{mask-ext, mask-none, mask-all, put-mask}
-use Rattle.range_bitset.specs.Layout.{blocks, needed, wordsOf, at, word, nonzero, full, population, topNonzero, topFull, Slot}
+use Rattle.range_bitset.specs.Layout.{blocks, wordsOf, at, word, nonzero, full, population, topNonzero, topFull, Slot}
 use Rattle.range_bitset.specs.Read.{ALL}
 use Rattle.range_bitset.specs.Represents.{wordOf, anyWord, allWord, valid, nonzeroMask, fullMask, blockCount, anyBlock, allBlock, closed, only, masked, Holds, Stored}
-use Rattle.range_bitset.specs.Inner.{Room, Spans, apart, moved, In, stores, find, writeMasks, writeTops, countMoved, Opens, Closes, Kept, Assigns}
-use Rattle.range_bitset.proofs.Slots.{stores-at, stores-kept, stores-long}
+use Rattle.range_bitset.specs.Inner.{Room, Spans, apart, moved, In, stores, find, AllIn, writeMasks, writeTops, countMoved, Opens, Closes, Kept, Assigns}
+use Rattle.range_bitset.proofs.Slots.{stores-at, leaves-at, leaves-kept, twice-at, twice-kept}
 use Rattle.range_bitset.proofs.Words.{words-some, block-most}
 use Rattle.range_bitset.proofs.Opening.{open-here}
 use Rattle.range_bitset.proofs.Rewriting.{touches, rewrite-block}
@@ -82,10 +81,9 @@ module _ (W blk m a b : ℕ) (v : Bool) (l : blk < blocks W) (fit : m < 2 ^ word
         rewrite-block W s (assigned s X Y v) blk agree st st₃ r others
         (now (nonzero blk) l ∙ cond-same blk _ _ ∙ ap (λ (x : ℕ). put 64 x m v) (r .nonzeros blk l (open-here W s blk)) ∙ mask-put (λ x. not (eqb x 0)) refl refl)
         (now (full blk) l ∙ cond-same blk _ _ ∙ ap (λ (x : ℕ). put 64 x m v) (r .fulls blk l (open-here W s blk)) ∙ mask-put (λ x. eqb x ALL) refl refl)
-        (ap (λ (x : List ℕ). at W x (population blk)) e₃
-        ∙ stores-at W st₂ long₂ (countMoved W st₂ blk old new) (l, omega arith) (population blk) l
+        (now (population blk) l
         ∙ cond-same blk _ _
-        ∙ ap (λ (x : ℕ). moved x old new) (now₂ (population blk) l ∙ r .counts blk l (open-here W s blk))
+        ∙ ap (λ (x : ℕ). moved x old new) (leaves-at W st (room .long) (writeMasks W st blk m v) written e₂ (population blk) l ∙ r .counts blk l (open-here W s blk))
         ∙ ap₂ (λ (x y : ℕ). moved (blockCount W s blk) x y) eo en
         ∙ moves _ _ _ _ block-moved old-most (block-most W (assigned s X Y v) blk) (block-most W s blk))
         (λ j h d p f. now (word j) h ∙ stay j h d p f)
@@ -101,17 +99,11 @@ module _ (W blk m a b : ℕ) (v : Bool) (l : blk < blocks W) (fit : m < 2 ^ word
             go (before p w) = assigned-before s X Y v i p
             go (behind p w) = assigned-behind s X Y v i p
 
-        now₂ : (t : Slot) → In W t → at W st₂ t ≡ find (writeMasks W st blk m v) t (at W st t)
-        now₂ t j = ap (λ (x : List ℕ). at W x t) e₂ ∙ stores-at W st (room .long) (writeMasks W st blk m v) (l, (l, omega arith)) t j
-
-        long₂ : needed W ≤ length st₂
-        long₂ = let q = ap length e₂ ∙ stores-long W st (writeMasks W st blk m v) in let z = room .long in omega arith
+        written : AllIn W (writeMasks W st blk m v)
+        written = (l, (l, omega arith))
 
         now : (t : Slot) → In W t → at W st₃ t ≡ find (countMoved W st₂ blk old new) t (find (writeMasks W st blk m v) t (at W st t))
-        now t j =
-            ap (λ (x : List ℕ). at W x t) e₃
-            ∙ stores-at W st₂ long₂ (countMoved W st₂ blk old new) (l, omega arith) t j
-            ∙ ap (find (countMoved W st₂ blk old new) t) (now₂ t j)
+        now t j = twice-at W st (room .long) (writeMasks W st blk m v) (countMoved W st₂ blk old new) written (l, omega arith) e₂ e₃ t j
 
         others : (t : Slot) → In W t → touches blk t ≡ false → at W st₃ t ≡ at W st t
         others (word j) q e = now (word j) q
@@ -150,21 +142,16 @@ module _ (W blk m a b : ℕ) (v : Bool) (l : blk < blocks W) (fit : m < 2 ^ word
       → n ≡ apart old new → Closes W blk st₃ st₄
       → Assigns W (64 * (64 * blk + a)) (64 * (64 * blk + b)) v st st₄ n
   words-assigned st st₁ st₂ st₃ st₄ old new n room o eo en e₂ e₃ ed c =
-      assigns-by W blk X Y v st st₁ st₃ st₄ n o (kept₃ ∙ kept₂) c
+      assigns-by W blk X Y v st st₁ st₃ st₄ n o kept c
       (λ s t. words-hold st₁ room s st₂ st₃ old new t (eo s t) (fresh s) e₂ e₃)
       (λ s t. ed ∙ ap₂ apart (eo s t) (fresh s) ∙ changed-apart s X Y v X Y (omega arith) (omega arith))
     where
       fresh : (s : Positions) → new ≡ count (assigned s X Y v) X Y
       fresh s = en ∙ value-count m a b 64 v small sp h (omega arith) s X Y (omega arith)
 
-      kept₂ : Kept W st₁ st₂
-      kept₂ = ap (drop (needed W)) e₂ ∙ stores-kept W st₁ (room .long) (writeMasks W st₁ blk m v) (l, (l, omega arith))
-
-      long₂ : needed W ≤ length st₂
-      long₂ = let q = ap length e₂ ∙ stores-long W st₁ (writeMasks W st₁ blk m v) in let z = room .long in omega arith
-
-      kept₃ : Kept W st₂ st₃
-      kept₃ = ap (drop (needed W)) e₃ ∙ stores-kept W st₂ long₂ (countMoved W st₂ blk old new) (l, omega arith)
+      kept : Kept W st₁ st₃
+      kept =
+          twice-kept W st₁ (room .long) (writeMasks W st₁ blk m v) (countMoved W st₂ blk old new) (l, (l, omega arith)) (l, omega arith) e₂ e₃
 
 -- ---- whole blocks: bits a..b of the mask are the blocks a..b, of 64 words each
 
@@ -285,7 +272,7 @@ pub blocks-assigned : (W m a b : ℕ) (v : Bool) → m < 2 ^ blocks W → Spans 
     → Assigns W (4096 * a) (4096 * b) v st st₂ n
 blocks-assigned W m a b v fit sp h u st st₂ room old new n eo en e ed =
     record {
-      kept = ap (drop (needed W)) e ∙ stores-kept W st (room .long) (writeTops W st m v) (omega arith);
+      kept = leaves-kept W st (room .long) (writeTops W st m v) (omega arith) e;
       holds = λ s r. subst (λ (x : List ℕ). Stored W x (assigned s (4096 * a) (4096 * b) v)) (sym e) (blocks-hold W m a b v fit sp h u st room s r);
       changed = λ s r.
           ed ∙ ap₂ apart (eo s r) (fresh s) ∙ changed-apart s (4096 * a) (4096 * b) v (4096 * a) (4096 * b) (omega arith) (omega arith);
