@@ -268,18 +268,11 @@ fn answer_last_line(
     answer_part(session, b"\n", line, out, storage, journal)
 }
 
-// Reads and answers until the input ends. What is answered is written out before each read, so that it appears at once.
-fn serve(
-    input: &mut [u8],
-    line: &mut [u8],
-    out: &mut [u8],
-    storage: &mut [u64],
-    journal: &mut [u32],
-)
-    requires { ⌜ 27 < length (now line) ⌝ }
-    requires { ⌜ 12 ≤ length (now out) ⌝ }
+// Before the first line: no ledger, and nothing kept or put.
+fn begin() -> Session
+    ensures { λ r. ⌜ (r .live ≡ false) × (r .kept ≡ 0) × (r .filled ≡ 0) ⌝ }
 {
-    let mut session = Session {
+    Session {
         kept: 0,
         filled: 0,
         head: Ledger {
@@ -292,7 +285,23 @@ fn serve(
             used: 0,
         },
         live: false,
-    };
+    }
+}
+
+// Reads and answers until the input ends. What is answered is written out before each read, so that it appears at once.
+fn serve(
+    input: &mut [u8],
+    line: &mut [u8],
+    out: &mut [u8],
+    storage: &mut [u64],
+    journal: &mut [u32],
+)
+    requires { ⌜ 27 < length (now line) ⌝ }
+    requires { ⌜ 12 ≤ length (now out) ⌝ }
+    requires { ⌜ 4290 ≤ length (now storage) ⌝ }
+    requires { ⌜ 16384 ≤ length (now journal) ⌝ }
+{
+    let mut session = begin();
     let mut turns = u64::MAX;
     while turns > 0 {
         turns -= 1;

@@ -17,8 +17,11 @@ Inv-loop input₀ line₀ out₀ storage₀ journal₀ session₀ turns₀ input
 abbrev μ-loop : tie.MeasureT-loop
 μ-loop input₀ line₀ out₀ storage₀ journal₀ session₀ turns₀ input line out storage journal session turns = turns
 
+begin-requires : tie.Need-begin-requires Inv-loop μ-loop
+begin-requires c κs = search needs
+
 loop-holds : tie.Need-loop-holds Inv-loop μ-loop
-loop-holds c = (refl, refl, refl, refl, refl, omega arith)
+loop-holds c = (refl, refl, refl, refl, refl, omega (arith, c .begin .ensures .1))
 
 sub-turns : tie.Need-sub-turns Inv-loop μ-loop
 sub-turns c = search needs
@@ -54,7 +57,7 @@ flush-requires-2 : tie.Need-flush-requires-2 Inv-loop μ-loop
 flush-requires-2 c κs = search needs
 
 -- after the loop the input buffer is as long as before
-left : (c : tie.Left-loop Inv-loop μ-loop) → length (c .loop-test .input) ≡ length (now (c .before .before .before .before .before .before .before .args .input))
+left : (c : tie.Left-loop Inv-loop μ-loop) → length (c .loop-test .input) ≡ length (now (c .before .before .before .before .before .before .before .before .args .input))
 left c =
     ⊎-elim (λ w. ap length (w .1) ∙ c .before .loop .inv .0) (λ w. ap length (w .8) ∙ w .2 .kept .1 .0 ∙ c .before .loop .inv .0)
     (c .loop-test .came)
@@ -83,6 +86,7 @@ serve-spec =
     (tie.spec
     Inv-loop
     μ-loop
+    begin-requires
     loop-holds
     sub-turns
     read-requires
