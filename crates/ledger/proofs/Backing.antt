@@ -30,7 +30,7 @@ use Rattle.ledger.specs.declared.Last.the-variants as last
 use Rattle.ledger.proofs.Machines.{standing-entry, kept-fresh, kept-step, step-none, step-back, none-standing, set-after-back, journal-length}
 use Rattle.ledger.proofs.Journals.{length-entry, entry-last, packed-runs, packed-value, read-entry}
 use Rattle.ledger.proofs.Reassigning.{read-take, changed-within, any-lengths, back-count}
-use Rattle.ledger.proofs.Refusals.{refused-call, LentEnough, lent-accepted, lent-again, ledger-set, lent-wipes, wipe-accepted, set-accepts}
+use Rattle.ledger.proofs.Refusals.{refused-call, LentEnough, lent-accepted, lent-again, ledger-set, lent-wipes, set-accepts}
 
 -- a call that needs no number is not refused for want of any
 needs-none : (n : ℕ) → _≡_ {A = ℕ} 0 (cond (leb 0 n) 0 6)
@@ -44,13 +44,13 @@ module _ (h : Ledger) (st j : List ℕ) where
   wipe-refused k e z =
       refused-call Wipe (memory h st j) k e z
       (λ m q.
-      let a = lent-accepted h (length st) (length j) (q .lent) in
-      absurd (z (e ∙ lent-wipes h (length st) (length j) a)))
+      let a = lent-accepted h (h .journal) (length st) (length j) (q .lent) in
+      absurd (z (e ∙ lent-wipes h (h .journal) (length st) (length j) a)))
 
   module _ (r : Assigned) (st′ : List ℕ) (z : wipeRefusal h (length st) ≡ 0) (e : ClearEnsures (h .set) st r st′)
       (long : length st′ ≡ length st) where
     ok : _≡_ {A = ℕ} (storageRefusal (h .set) (length st)) 0
-    ok = let a = wipe-accepted h (length st) z in set-accepts h (length st) (a .good) (a .long)
+    ok = set-accepts h 0 (length st) 0 (lent-accepted h 0 (length st) 0 z)
 
     pub wiped : CallEnsures Wipe (memory h st j) (ofCounted (r .answer)) (memory (record { set = r .head; journal = h .journal; used = 0 }) st′ j)
     unfolding callRefusal population setOf used step
@@ -67,7 +67,7 @@ module _ (h : Ledger) (st j : List ℕ) where
           holds = λ m q.
               record {
                 kept = kept-fresh (m .capacity) (m .journal);
-                lent = lent-again h _ _ _ _ _ _ _ (lent-accepted h (length st) (length j) (q .lent)) (e .same-words)
+                lent = lent-again h _ _ _ _ _ _ _ (lent-accepted h (h .journal) (length st) (length j) (q .lent)) (e .same-words)
                     (e .represents ok (setOf m) (q .set)) refl (omega arith) long refl;
                 capacity = ap (λ (x : ℕ). 64 * x) (e .same-words) ∙ q .capacity;
                 journal-length = q .journal-length;
@@ -185,14 +185,14 @@ module _ (h : Ledger) (st j : List ℕ) where
   pub back-room : (n : ℕ) (v : Bool) → lentRefusal h (length st) (length j) ≡ 0 → LastRead j (h .used) n v
       → (h .used - (2 * n + 1) + 2 * n ≤ length j) × (h .used - (2 * n + 1) + 2 * n ≤ 16384)
   back-room n v z r =
-      let a = lent-accepted h (length st) (length j) z in
+      let a = lent-accepted h (h .journal) (length st) (length j) z in
       (omega (arith, r .fits, a .used-most, a .journal-long), omega (arith, r .fits, a .used-most, a .journal-most))
 
   module _ (n : ℕ) (v : Bool) (count-back : ℕ) (h′ : RangeBitset) (st′ : List ℕ) (z : lentRefusal h (length st) (length j) ≡ 0)
       (r : LastRead j (h .used) n v) (long : length st′ ≡ length st)
       (a : AssignsRuns (h .set) st (readRuns j (h .used - (2 * n + 1)) n) (not v) count-back h′ st′) where
-    lent : LentEnough h (length st) (length j)
-    lent = lent-accepted h (length st) (length j) z
+    lent : LentEnough h (h .journal) (length st) (length j)
+    lent = lent-accepted h (h .journal) (length st) (length j) z
 
     abbrev pub after : Memory
     after = memory (record { set = h′; journal = h .journal; used = h .used - (2 * n + 1) }) st′ j
@@ -241,7 +241,7 @@ module _ (h : Ledger) (st j : List ℕ) where
         split = (rw e at (q .journal)) ∙ ap (λ (x : List ℕ). l ++ x) (standing-entry (m .capacity) s c stands)
 
         ok : storageRefusal (h .set) (length st) ≡ 0
-        ok = set-accepts h (length st) (lent .good) (lent .long)
+        ok = set-accepts h (h .journal) (length st) (length j) lent
 
         t : Represents (h .set) st S
         t = rw e at (q .set)

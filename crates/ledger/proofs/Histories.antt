@@ -4,7 +4,7 @@ use mathlib.Core.Bool.{Bool, true, false, _&&_, cond}
 use mathlib.Core.List.{List}
 use Prim.Native.Nat.{ℕ, _%_, _/_, _≤_, _<_}
 use native.Mathlib.Omega.{arith}
-use borrow.Author.Tests.{le-leb, eqb-true}
+use borrow.Author.Tests.{leb-true, eqb-true}
 use lib.Dec.{eqb, leb}
 use lib.ListN.{length}
 use Rattle.positions.specs.Positions.{Positions, count}
@@ -12,16 +12,16 @@ use Rattle.positions.proofs.Bools.{and-left, and-right}
 use Rattle.range_bitset.specs.Layout.{allowed}
 use Rattle.range_bitset.specs.Answers.{Reply, allowedCapacity, storageRefusal, rangeRefusal, pointRefusal}
 use Rattle.range_bitset.specs.Entries.{Answers}
-use Rattle.range_bitset.proofs.Heads.{range-accepts, point-accepts, fresh-good, fresh-represents}
+use Rattle.range_bitset.proofs.Heads.{range-accepts, point-accepts, fresh-represents}
 use Rattle.ledger.specs.Machine.{Machine, fresh, Call, Outcome, step, after, setOf, population, used}
-use Rattle.ledger.specs.Memory.{Memory, memory, goodLedger, lentEnough, lentRefusal, Holds}
+use Rattle.ledger.specs.Memory.{Memory, memory, lentEnough, Holds}
 use Rattle.ledger.specs.Entries.{newHead, newOf, refusalOf}
 use Rattle.ledger.specs.History.{Begun, by-new, by-open, Chain, none as no-call, call, Agrees, History}
 use Rattle.ledger.specs.declared.Ledger.{Ledger}
 use Rattle.ledger.specs.declared.Opened.{Opened}
 use Rattle.ledger.specs.declared.Opened.the-variants as opened
 use Rattle.ledger.proofs.Machines.{kept-fresh, population-sum}
-use Rattle.ledger.proofs.Refusals.{lent-accepted, set-accepts}
+use Rattle.ledger.proofs.Refusals.{lent-accepted, set-accepts, fresh-refusal}
 
 -- ---- what new gives
 
@@ -33,13 +33,14 @@ headOr h (opened.BadRun i) = h
 module _ (capacity j : ℕ) (st journal : List ℕ) where
   pub holds-fresh : (allowedCapacity capacity && leb j 16384) ≡ true → lentEnough (capacity / 64) j (length st) (length journal) ≡ true
       → Holds (memory (newHead (capacity / 64) j false) st journal) (fresh capacity j)
-  unfolding allowedCapacity goodLedger lentRefusal used setOf
+  unfolding allowedCapacity used setOf
   holds-fresh p q =
       let good : allowedCapacity capacity ≡ true = and-left (allowedCapacity capacity) (leb j 16384) p in
       record {
         kept = kept-fresh capacity j;
         lent =
-            rw (fresh-good capacity good, and-right (allowedCapacity capacity) (leb j 16384) p, q, le-leb 0 j (omega arith));
+            fresh-refusal capacity j (length st) (length journal) good (leb-true j 16384 (and-right (allowedCapacity capacity) (leb j 16384) p))
+            ∙ ap (λ (b : Bool). cond b 0 3) q;
         capacity = omega (arith, eqb-true (capacity % 64) 0 (and-left (eqb (capacity % 64) 0) (allowed (capacity / 64)) good));
         journal-length = refl;
         in-use = refl;
@@ -85,8 +86,8 @@ chain-holds x z m cs rs h (call {y = y} {c = c} {cs = ds} {rs = qs} s t) = chain
 module _ (x : Memory) (m : Machine) (h : Holds x m) where
   pub accepted : storageRefusal (x .head .set) (length (x .storage)) ≡ 0
   accepted =
-      let a = lent-accepted (x .head) (length (x .storage)) (length (x .journal)) (h .lent) in
-      set-accepts (x .head) (length (x .storage)) (a .good) (a .long)
+      set-accepts (x .head) (x .head .journal) (length (x .storage)) (length (x .journal))
+      (lent-accepted (x .head) (x .head .journal) (length (x .storage)) (length (x .journal)) (h .lent))
 
   in-range : (e : ℕ) → e ≤ m .capacity → rangeRefusal (x .head .set) (length (x .storage)) e ≡ 0
   in-range e l = range-accepts (x .head .set) (length (x .storage)) e accepted (rw (h .capacity) l)

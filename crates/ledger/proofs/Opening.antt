@@ -2,30 +2,28 @@
 use mathlib.Core.Path.{_≡_, refl, sym, ap, _∙_, subst}
 use mathlib.Core.Bool.{Bool, true, false, not, cond}
 use mathlib.Core.List.{List, [], _∷_}
-use Prim.Native.Nat.{ℕ, _*_, _/_, _%_, _≤_, _<_}
+use Prim.Native.Nat.{ℕ, _*_, _/_, _≤_, _<_}
 use native.Mathlib.Omega.{arith}
-use borrow.Author.Tests.{le-leb, lt-leb, lt-ltb, le-ltb}
+use borrow.Author.Tests.{le-leb, lt-leb, lt-ltb, le-ltb, eq-eqb, ne-eqb}
 use lib.Dec.{eqb}
 use lib.ListN.{length}
-use Rattle.positions.proofs.Bools.{and-right}
 use Rattle.positions.specs.Positions.{Positions, none}
 use Rattle.positions.specs.Runs.{Ascending}
 use Rattle.positions.proofs.Runs.{covered-above}
-use Rattle.range_bitset.specs.Layout.{allowed}
 use Rattle.range_bitset.specs.Represents.{Represents}
-use Rattle.range_bitset.specs.Answers.{allowedCapacity, goodHead, storageRefusal}
+use Rattle.range_bitset.specs.Answers.{allowedCapacity, storageRefusal}
 use Rattle.range_bitset.specs.Entries.{newOf as setNew}
 use Rattle.range_bitset.specs.declared.RangeBitset.{RangeBitset}
 use Rattle.range_bitset.specs.declared.Made.{Made}
 use Rattle.range_bitset.specs.declared.Made.the-variants as made
-use Rattle.range_bitset.proofs.Heads.{allowed-bounds, represented-good, accepted-storage, freshHead, fresh-good, fresh-represents}
-use Rattle.ledger.specs.Entries.{newOf, refusalOf, openRefusal, OpenEnsures}
+use Rattle.range_bitset.proofs.Heads.{freshHead, fresh-represents}
+use Rattle.ledger.specs.Entries.{newHead, newOf, refusalOf, openRefusal, OpenEnsures}
 use Rattle.ledger.specs.Machine.{openedWith, setOf, used}
-use Rattle.ledger.specs.Memory.{lentEnough, memory, Holds}
+use Rattle.ledger.specs.Memory.{lentEnough, lentRefusal, memory, Holds}
 use Rattle.ledger.specs.Inner.{Within, Reassigns, fileRuns, OpensRuns}
 use Rattle.ledger.specs.declared.Opened.{Opened}
 use Rattle.ledger.proofs.Machines.{kept-opened}
-use Rattle.ledger.proofs.Refusals.{lent-both, accepted-lent, good-again}
+use Rattle.ledger.proofs.Refusals.{LentEnough, lent-accepted, set-accepts, lent-again, fresh-refusal, fresh-enough}
 use Rattle.ledger.proofs.Reassigning.{ascending-within, ascending-any}
 use Rattle.saved_list.specs.Format.{savedWords, savedCount, savedCapacity, savedRuns, savedPositions, Headed, Whole, headed, whole, firstBadRun}
 use Rattle.saved_list.specs.Answers.{refuses, headerAnswer, headerOf, lengthAnswer, lengthOf, runsAnswer, runsOf}
@@ -62,12 +60,6 @@ module _ (capacity : ℕ) (r : Made) (e : r ≡ setNew capacity) where
       go false x y = absurd (let z : _≡_ {A = ℕ} 0 1 = cc in omega arith)
       go true x y = (x, cc)
 
-  pub set-words : (h : RangeBitset) → r ≡ made.Head h → h .words ≤ 4096
-  unfolding allowedCapacity
-  set-words h q =
-      let p = set-made h q in
-      omega (arith, ap (λ (x : RangeBitset). x .words) (p .1), allowed-bounds (capacity / 64) (and-right (eqb (capacity % 64) 0) (allowed (capacity / 64)) (p .0)) .1)
-
 -- ---- `new`
 
 module _ (capacity j n k : ℕ) where
@@ -79,11 +71,13 @@ module _ (capacity j n k : ℕ) where
   unfolding newOf
   new-journal e l = rw (e, lt-leb j 16384 l)
 
-  pub new-lent : (h : RangeBitset) (b : Bool) → (allowedCapacity capacity ≡ true) × (h ≡ freshHead (capacity / 64)) → j ≤ 16384
-      → b ≡ lentEnough (h .words) j n k
+  pub new-lent : (h : RangeBitset) (r : ℕ) (b : Bool) → (allowedCapacity capacity ≡ true) × (h ≡ freshHead (capacity / 64)) → j ≤ 16384
+      → r ≡ lentRefusal (record { set = h; journal = j; used = 0 }) n k → eqb r 0 ≡ b
       → cond b (opened.Head (record { set = h; journal = j; used = 0 })) (opened.Refused 3) ≡ newOf capacity j n k
   unfolding newOf
-  new-lent h b e l q = rw (q, e .1, e .0, le-leb j 16384 l)
+  new-lent h r b e l q z =
+      let enough = fresh-enough capacity j n k r (e .0) l (rw (e .1) at q) in
+      rw (e .1, e .0, le-leb j 16384 l, enough, z)
 
 -- ---- `open`: the refusals
 
@@ -164,13 +158,17 @@ module _ (file : List ℕ) (j : ℕ) (st lent : List ℕ) (h : Headed file) (a :
     (e : lentEnough (savedWords file) j (length st) (length lent) ≡ true) (c : Ascending 0 (savedCapacity file) (savedRuns file))
     (h′ : RangeBitset) (st′ : List ℕ) (long : length st′ ≡ length st)
     (o : OpensRuns (freshHead (savedWords file)) st file (savedCount file) h′ st′) where
-  good : goodHead (freshHead (savedWords file)) ≡ true
-  good =
+  abbrev fresh : Ledger
+  fresh = newHead (savedWords file) j false
+
+  fresh-lent : LentEnough fresh j (length st) (length lent)
+  fresh-lent =
       let p : savedCapacity file / 64 ≡ savedWords file = omega arith in
-      rw p at (fresh-good (savedCapacity file) a)
+      lent-accepted fresh j (length st) (length lent)
+      ((rw p at (fresh-refusal (savedCapacity file) j (length st) (length lent) a l)) ∙ ap (λ (b : Bool). cond b 0 3) e)
 
   ok : storageRefusal (freshHead (savedWords file)) (length st) ≡ 0
-  ok = accepted-storage (freshHead (savedWords file)) (length st) good (lent-both (savedWords file) j (length st) (length lent) e .0)
+  ok = set-accepts fresh j (length st) (length lent) fresh-lent
 
   in-file : Within (savedCapacity file) (fileRuns file (savedCount file))
   unfolding savedRuns
@@ -200,15 +198,8 @@ module _ (file : List ℕ) (j : ℕ) (st lent : List ℕ) (h : Headed file) (a :
   holds-all =
       record {
         kept = kept-opened (savedCapacity file) j (savedPositions file) (λ i u. covered-above 0 (savedCapacity file) (savedRuns file) c i u);
-        lent =
-            accepted-lent openedHead (length st′) (length lent)
-            (record {
-              good = good-again openedHead (represented-good (freshHead (savedWords file)) h′ st′ (savedPositions file) good (o .same-words) holds-file) l (omega arith);
-              journal-most = l;
-              used-most = omega arith;
-              long = rw (o .same-words, long) (lent-both (savedWords file) j (length st) (length lent) e .0);
-              journal-long = lent-both (savedWords file) j (length st) (length lent) e .1;
-            });
+        lent = lent-again fresh openedHead (length st) (length lent) (length st′) (length lent) st′ (savedPositions file) fresh-lent
+            (o .same-words) holds-file refl (omega arith) long refl;
         capacity = ap (λ (x : ℕ). 64 * x) (o .same-words);
         journal-length = refl;
         in-use = refl;
@@ -247,10 +238,6 @@ module _ (file : List ℕ) (j : ℕ) (st lent : List ℕ) (header : Header) (hea
         (refuse-capacity file j (length st) (length lent) (read .headed) (rw (read .words-read) at (set-declined (64 * W) made-set made-is k q)))
 
     module _ (set : RangeBitset) (set-is : made-set ≡ made.Head set) where
-      pub open-words : W ≤ 4096
-      open-words =
-          omega (arith, set-words (64 * W) made-set made-is set set-is, ap (λ (x : RangeBitset). x .words) (set-made (64 * W) made-set made-is set set-is .1))
-
       allowed-file : allowedCapacity (savedCapacity file) ≡ true
       allowed-file = rw (read .words-read) at (set-made (64 * W) made-set made-is set set-is .0)
 
@@ -268,28 +255,34 @@ module _ (file : List ℕ) (j : ℕ) (st lent : List ℕ) (header : Header) (hea
             open-declined file j st lent (opened.Refused 7) 7 [] refl
             (refuse-length file j (length st) (length lent) (read .headed) allowed-file l (length-bad file (sym (ap lengthAnswer q) ∙ long-is)))
 
-        module _ (good : long ≡ GoodLength) (b : Bool) (enough : b ≡ lentEnough W j (length st) (length lent)) where
+        module _ (good : long ≡ GoodLength) (refused : ℕ)
+            (refused-is : refused ≡ lentRefusal (record { set = set; journal = j; used = 0 }) (length st) (length lent)) where
           whole-file : Whole file
           whole-file = length-whole file (sym (ap lengthAnswer good) ∙ long-is)
 
-          enough-file : lentEnough (savedWords file) j (length st) (length lent) ≡ b
-          enough-file = sym (rw (read .words-read) at enough)
+          enough-file : (b : Bool) → eqb refused 0 ≡ b → lentEnough (savedWords file) j (length st) (length lent) ≡ b
+          enough-file b q =
+              let w : savedCapacity file / 64 ≡ savedWords file = omega arith in
+              (rw w at (fresh-enough (savedCapacity file) j (length st) (length lent) refused allowed-file l (rw (w, ← fresh-set) refused-is))) ∙ q
 
-          pub open-lent : b ≡ false → OpenEnsures file j st lent (opened.Refused 3) st
+          pub open-lent : (refused ≡ 0 → ⊥) → OpenEnsures file j st lent (opened.Refused 3) st
           open-lent q =
               open-declined file j st lent (opened.Refused 3) 3 [] refl
-              (refuse-lent file j (length st) (length lent) (read .headed) allowed-file l whole-file (enough-file ∙ q))
+              (refuse-lent file j (length st) (length lent) (read .headed) allowed-file l whole-file (enough-file false (ne-eqb refused 0 q)))
 
-          module _ (yes : b ≡ true) (checked : RunCheck) (checked-is : runsAnswer checked ≡ runsOf file) where
+          module _ (none-refused : refused ≡ 0) (checked : RunCheck) (checked-is : runsAnswer checked ≡ runsOf file) where
+            enough : lentEnough (savedWords file) j (length st) (length lent) ≡ true
+            enough = enough-file true (eq-eqb refused 0 none-refused)
+
             pub open-run : (i : ℕ) → checked ≡ BadRun i → OpenEnsures file j st lent (opened.BadRun i) st
             open-run i q =
                 open-declined file j st lent (opened.BadRun i) 8 (i ∷ []) refl
-                (refuse-run file j (length st) (length lent) (read .headed) allowed-file l whole-file (enough-file ∙ yes) i
+                (refuse-run file j (length st) (length lent) (read .headed) allowed-file l whole-file enough i
                 (runs-refused file whole-file i (sym (ap runsAnswer q) ∙ checked-is)))
 
             pub open-done : checked ≡ AllGood → (h′ : RangeBitset) (st′ : List ℕ) → length st′ ≡ length st → OpensRuns set st file count h′ st′
                 → OpenEnsures file j st lent (opened.Head (record { set = h′; journal = j; used = 0 })) st′
             open-done q h′ st′ same o =
-                opened-file file j st lent (read .headed) allowed-file l whole-file (enough-file ∙ yes)
+                opened-file file j st lent (read .headed) allowed-file l whole-file enough
                 (runs-ascending file whole-file (sym (ap runsAnswer q) ∙ checked-is)) h′ st′ same
                 (rw (fresh-set, read .count-read) at o)

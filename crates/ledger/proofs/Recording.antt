@@ -10,13 +10,13 @@ use lib.ListN.{length, take}
 use Rattle.positions.specs.Positions.{Positions, assigned}
 use Rattle.positions.specs.Runs.{changedRuns}
 use Rattle.range_bitset.specs.Represents.{Represents, capacityOf}
-use Rattle.range_bitset.specs.Answers.{Refusal, ofCounted, goodHead, rangeRefusal}
+use Rattle.range_bitset.specs.Answers.{Refusal, ofCounted, rangeRefusal}
 use Rattle.range_bitset.specs.Entries.{AssignEnsures}
 use Rattle.range_bitset.specs.declared.RangeBitset.{RangeBitset}
 use Rattle.range_bitset.specs.declared.Assigned.{Assigned}
 use Rattle.range_bitset.specs.declared.Counted.{Counted}
 use Rattle.range_bitset.specs.declared.Counted.the-variants as counted
-use Rattle.range_bitset.proofs.Heads.{accepted-refused, range-accepts, represented-good}
+use Rattle.range_bitset.proofs.Heads.{accepted-refused, range-accepts}
 use Rattle.ledger.specs.Machine.{Machine, Range, setOf, used, needOf, step, nextOf}
 use Rattle.ledger.specs.Journal.{journalOf}
 use Rattle.ledger.specs.Memory.{Memory, memory, lentRefusal, callRefusal, Holds}
@@ -24,7 +24,7 @@ use Rattle.ledger.specs.Entries.{CallEnsures, flagAfter}
 use Rattle.ledger.specs.Inner.{RunsFit, WritesCall}
 use Rattle.ledger.specs.declared.Ledger.{Ledger}
 use Rattle.ledger.proofs.Machines.{stayed, went, step-outside, step-full, step-range, kept-step, set-after-range, needs-added, journal-added}
-use Rattle.ledger.proofs.Refusals.{declined-as, refused-call, LentEnough, lent-accepted, accepted-lent, set-accepts, ledger-set, good-again}
+use Rattle.ledger.proofs.Refusals.{declined-as, refused-call, LentEnough, lent-accepted, set-accepts, lent-again}
 
 module _ (h : Ledger) (st j : List ℕ) (a e : ℕ) (v : Bool) where
   -- ---- the refusals of the table
@@ -52,8 +52,8 @@ module _ (h : Ledger) (st j : List ℕ) (a e : ℕ) (v : Bool) where
   -- the set's own calls then pass too
   accepted : lentRefusal h (length st) (length j) ≡ 0 → e ≤ capacityOf (h .set) → rangeRefusal (h .set) (length st) e ≡ 0
   accepted p n =
-      let l = lent-accepted h (length st) (length j) p in
-      range-accepts (h .set) (length st) e (set-accepts h (length st) (l .good) (l .long)) n
+      range-accepts (h .set) (length st) e
+      (set-accepts h (h .journal) (length st) (length j) (lent-accepted h (h .journal) (length st) (length j) p)) n
 
   -- ---- refused: nothing is changed
 
@@ -121,8 +121,8 @@ module _ (h : Ledger) (st j : List ℕ) (a e : ℕ) (v : Bool) where
       (end-within : e ≤ capacityOf (h .set)) (some : h .used ≡ h .journal → ⊥) (most-is : most ≡ (h .journal - h .used - 1) / 2)
       (fit : Bool) (fits : RunsFit (h .set) st a e v most fit) (all-fit : fit ≡ true) (writes : WritesCall (h .set) st a e v (h .used) most u′ j j′)
       (same-journal : length j′ ≡ length j) (changes : AssignEnsures (h .set) st a e v r st′) (same-storage : length st′ ≡ length st) where
-    enough : LentEnough h (length st) (length j)
-    enough = lent-accepted h (length st) (length j) lent
+    enough : LentEnough h (h .journal) (length st) (length j)
+    enough = lent-accepted h (h .journal) (length st) (length j) lent
 
     passes : rangeRefusal (h .set) (length st) e ≡ 0
     passes = accepted lent end-within
@@ -147,20 +147,6 @@ module _ (h : Ledger) (st j : List ℕ) (a e : ℕ) (v : Bool) where
     set-next : (m : Machine) → Holds before m → Represents (r .head) st′ (assigned (setOf m) a e v)
     set-next m x = changes .represents passes (setOf m) (x .set)
 
-    lent-next : (m : Machine) → Holds before m → LentEnough (moved (r .head) u′) (length st′) (length j′)
-    lent-next m x =
-        record {
-          good = good-again (moved (r .head) u′) good-set (enough .journal-most) room;
-          journal-most = enough .journal-most;
-          used-most = room;
-          long = rw (same-storage, changes .same-words) (enough .long);
-          journal-long = rw same-journal (enough .journal-long);
-        }
-      where
-        good-set : goodHead (r .head) ≡ true
-        good-set =
-            represented-good (h .set) (r .head) st′ (assigned (setOf m) a e v) (ledger-set h (enough .good)) (changes .same-words) (set-next m x)
-
     in-use-next : (m : Machine) → Holds before m → u′ ≡ used (nextOf m (Range a e v))
     unfolding used
     in-use-next m x = rw (needs-added (setOf m) (m .standing) a e v) (omega (arith, x .in-use, need-is (setOf m) (x .set)))
@@ -176,7 +162,8 @@ module _ (h : Ledger) (st j : List ℕ) (a e : ℕ) (v : Bool) where
     holds-next m x =
         record {
           kept = rw (goes m x) at (kept-step m (Range a e v) (x .kept));
-          lent = accepted-lent (moved (r .head) u′) (length st′) (length j′) (lent-next m x);
+          lent = lent-again h (moved (r .head) u′) (length st) (length j) (length st′) (length j′) st′ (assigned (setOf m) a e v) enough
+              (changes .same-words) (set-next m x) refl room same-storage same-journal;
           capacity = ap (λ (n : ℕ). 64 * n) (changes .same-words) ∙ x .capacity;
           journal-length = x .journal-length;
           in-use = in-use-next m x;

@@ -31,12 +31,16 @@ goodLedger h = goodHead (h .set) && (leb (h .journal) 16384 && leb (h .used) (h 
 unfoldable pub lentEnough : ℕ → ℕ → ℕ → ℕ → Bool
 lentEnough W j n k = leb (needed W) n && leb j k
 
-unfoldable pub lentRefusal : Ledger → ℕ → ℕ → ℕ
-lentRefusal h n k = cond (goodLedger h) (cond (lentEnough (h .set .words) (h .journal) n k) 0 3) 2
+-- 2, then 3, for a call that needs j journal numbers
+unfoldable pub refusalFor : Ledger → ℕ → ℕ → ℕ → ℕ
+refusalFor h j n k = cond (goodLedger h) (cond (lentEnough (h .set .words) j n k) 0 3) 2
+
+abbrev pub lentRefusal : Ledger → ℕ → ℕ → ℕ
+lentRefusal h n k = refusalFor h (h .journal) n k
 
 -- wipe is lent no journal
-unfoldable pub wipeRefusal : Ledger → ℕ → ℕ
-wipeRefusal h n = cond (goodLedger h) (cond (lentEnough (h .set .words) 0 n 0) 0 3) 2
+abbrev pub wipeRefusal : Ledger → ℕ → ℕ
+wipeRefusal h n = refusalFor h 0 n 0
 
 -- 4: an end above the capacity (a point p ends at p + 1); 6: U = J, since every marking and clearing needs a number;
 -- 5: take-back with U = 0

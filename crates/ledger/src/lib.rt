@@ -11,7 +11,7 @@ ghost use Rattle.positions.specs.Positions.{one};
 ghost use Rattle.range_bitset.specs.Answers.{ofCounted};
 ghost use Rattle.range_bitset.specs.declared.Counted.the-variants as counted;
 ghost use Rattle.ledger.specs.Machine.{Range, Back, Wipe, point};
-ghost use Rattle.ledger.specs.Memory.{memory, goodLedger, lentEnough, lentRefusal, wipeRefusal};
+ghost use Rattle.ledger.specs.Memory.{memory, refusalFor};
 ghost use Rattle.ledger.specs.Entries.{CallEnsures, newOf, OpenEnsures};
 ghost use Rattle.ledger.specs.Inner.{Finds, RunsFit, CountsRuns, WritesCall, WritesRuns, readRuns, AssignsRuns, OpensRuns, lastOf, placeIn, countIn};
 use range_bitset::Counted;
@@ -70,25 +70,15 @@ impl Ledger {
         if limit > JOURNAL_MOST as usize {
             return Opened::Refused(1);
         }
-        if !Self::lent_enough(set.words as usize, limit, storage.len(), journal.len()) {
-            return Opened::Refused(3);
-        }
-        Opened::Head(Ledger {
+        let head = Ledger {
             set,
             journal: limit as u32,
             used: 0,
-        })
-    }
-
-    // Whether so many storage and journal numbers are enough.
-    fn lent_enough(words: usize, limit: usize, storage_len: usize, journal_len: usize) -> bool
-        requires { ⌜ words ≤ 4096 ⌝ }
-        ensures { λ r. ⌜ r ≡ lentEnough words limit «storage_len» «journal_len» ⌝ }
-    {
-        if storage_len < words + 3 * ((words + 63) / 64) + 2 {
-            return false;
+        };
+        if Self::refusal(head, head.journal, storage.len(), journal.len()) != 0 {
+            return Opened::Refused(3);
         }
-        limit <= journal_len
+        Opened::Head(head)
     }
 
     // A ledger opened on a saved list. Every run is checked before anything is written.
@@ -107,7 +97,12 @@ impl Ledger {
         let LengthCheck::GoodLength = saved_list::check_length(file) else {
             return Opened::Refused(7);
         };
-        if !Self::lent_enough(words as usize, limit, storage.len(), journal.len()) {
+        let head = Ledger {
+            set,
+            journal: limit as u32,
+            used: 0,
+        };
+        if Self::refusal(head, head.journal, storage.len(), journal.len()) != 0 {
             return Opened::Refused(3);
         }
         if let RunCheck::BadRun(index) = saved_list::check_runs(file) {
@@ -116,8 +111,8 @@ impl Ledger {
         let set = Self::assign_file(set, storage, file, runs);
         Opened::Head(Ledger {
             set,
-            journal: limit as u32,
-            used: 0,
+            journal: head.journal,
+            used: head.used,
         })
     }
 
@@ -153,7 +148,7 @@ impl Ledger {
     pub fn take_back(self, storage: &mut [u64], journal: &[u32]) -> Called
         ensures { λ r. ⌜ CallEnsures Back (memory self (now (storage .entry)) (now (journal .entry))) (ofCounted (r .answer)) (memory (r .head) (now (storage .exit)) (now (journal .entry))) ⌝ }
     {
-        let refused = Self::refusal(self, storage.len(), journal.len());
+        let refused = Self::refusal(self, self.journal, storage.len(), journal.len());
         if refused != 0 {
             return Self::declined(self, refused);
         }
@@ -180,7 +175,7 @@ impl Ledger {
     pub fn wipe(self, storage: &mut [u64]) -> Called
         ensures { λ r. ⌜ ((j : List ℕ) → CallEnsures Wipe (memory self (now (storage .entry)) j) (ofCounted (r .answer)) (memory (r .head) (now (storage .exit)) j)) ⌝ }
     {
-        let refused = Self::wipe_refusal(self, storage.len());
+        let refused = Self::refusal(self, 0, storage.len(), 0);
         if refused != 0 {
             return Self::declined(self, refused);
         }
@@ -199,50 +194,24 @@ impl Ledger {
         }
     }
 
-    // The set's `len` is refused just where its head is not good.
-    fn good_head(head: Ledger) -> bool
-        ensures { λ r. ⌜ r ≡ goodLedger head ⌝ }
+    // 0, or the number by which a call that needs `limit` journal numbers is refused: 2, then 3.
+    fn refusal(head: Ledger, limit: u32, storage_len: usize, journal_len: usize) -> u8
+        ensures { λ r. ⌜ r ≡ refusalFor head limit «storage_len» «journal_len» ⌝ }
     {
-        let Counted::Count(_) = head.set.len() else {
-            return false;
-        };
+        let of_set = RangeBitset::refusal(head.set, storage_len);
+        if of_set == 2 {
+            return 2;
+        }
         if head.journal > JOURNAL_MOST {
-            return false;
-        }
-        head.used <= head.journal
-    }
-
-    // 0, or the number by which a call on head and storage is refused.
-    fn wipe_refusal(head: Ledger, storage_len: usize) -> u8
-        ensures { λ r. ⌜ r ≡ wipeRefusal head «storage_len» ⌝ }
-    {
-        if !Self::good_head(head) {
             return 2;
         }
-        if Self::lent_enough(head.set.words as usize, 0, storage_len, 0) {
-            0
-        } else {
-            3
-        }
-    }
-
-    // 0, or the number by which a call on head, storage and journal is refused.
-    fn refusal(head: Ledger, storage_len: usize, journal_len: usize) -> u8
-        ensures { λ r. ⌜ r ≡ lentRefusal head «storage_len» «journal_len» ⌝ }
-    {
-        if !Self::good_head(head) {
+        if head.used > head.journal {
             return 2;
         }
-        if Self::lent_enough(
-            head.set.words as usize,
-            head.journal as usize,
-            storage_len,
-            journal_len,
-        ) {
-            0
-        } else {
-            3
+        if of_set != 0 {
+            return 3;
         }
+        if limit as usize <= journal_len { 0 } else { 3 }
     }
 
     // Mark or clear: refused before anything is written, or recorded and then done.
@@ -256,7 +225,7 @@ impl Ledger {
     ) -> Called
         ensures { λ r. ⌜ CallEnsures (Range start end value) (memory head (now (storage .entry)) (now (journal .entry))) (ofCounted (r .answer)) (memory (r .head) (now (storage .exit)) (now (journal .exit))) ⌝ }
     {
-        let refused = Self::refusal(head, storage.len(), journal.len());
+        let refused = Self::refusal(head, head.journal, storage.len(), journal.len());
         if refused != 0 {
             return Self::declined(head, refused);
         }
@@ -307,7 +276,7 @@ impl Ledger {
         ensures { λ r. ⌜ CallEnsures (point index value) (memory head (now (storage .entry)) (now (journal .entry))) (ofCounted (r .answer)) (memory (r .head) (now (storage .exit)) (now (journal .exit))) ⌝ }
     {
         if index == usize::MAX {
-            let refused = Self::refusal(head, storage.len(), journal.len());
+            let refused = Self::refusal(head, head.journal, storage.len(), journal.len());
             if refused != 0 {
                 return Self::declined(head, refused);
             }

@@ -55,6 +55,31 @@ pub accepted-storage : (h : RangeBitset) (n : ℕ) → goodHead h ≡ true → n
 unfolding storageRefusal
 accepted-storage h n g l = rw (g, le-ltb n (needed (h .words)) l)
 
+-- 2 tells the head, and behind a good head anything but 0 that the storage is short
+pub storage-bad : (h : RangeBitset) (n : ℕ) → storageRefusal h n ≡ 2 → goodHead h ≡ false
+unfolding storageRefusal
+storage-bad h n e = by (goodHead h) refl (ltb n (needed (h .words))) e
+  where
+    by : (g : Bool) → goodHead h ≡ g → (l : Bool) → _≡_ {A = ℕ} (cond g (cond l 3 0) 2) 2 → goodHead h ≡ false
+    by true p true z = absurd (omega arith)
+    by true p false z = absurd (omega arith)
+    by false p l z = p
+
+pub storage-good : (h : RangeBitset) (n : ℕ) → (storageRefusal h n ≡ 2 → ⊥) → goodHead h ≡ true
+unfolding storageRefusal
+storage-good h n f = by (goodHead h) refl
+  where
+    by : (g : Bool) → goodHead h ≡ g → goodHead h ≡ true
+    by true p = p
+    by false p = absurd (f (rw p))
+
+pub storage-short : (h : RangeBitset) (n : ℕ) → goodHead h ≡ true → (storageRefusal h n ≡ 0 → ⊥) → n < needed (h .words)
+storage-short h n g f = by (ltb n (needed (h .words))) refl
+  where
+    by : (l : Bool) → ltb n (needed (h .words)) ≡ l → n < needed (h .words)
+    by true p = ltb-true n (needed (h .words)) p
+    by false p = absurd (f (accepted-storage h n g (ltb-false n (needed (h .words)) p)))
+
 -- where the first checks pass there is room
 pub accepted : (h : RangeBitset) (st : List ℕ) → storageRefusal h (length st) ≡ 0 → Room (h .words) st
 accepted h st e =

@@ -45,19 +45,19 @@ returns-3 c =
 sub-most : tie.Need-sub-most
 sub-most c =
     let b = c .before .before .before .before in
-    let l = lent-accepted _ _ _ (sym (b .before .refusal .ensures) ∙ b .if1 .left) in
+    let l = lent-accepted _ _ _ _ (sym (b .before .refusal .ensures) ∙ b .if1 .left) in
     omega arith
 
 sub-most-2 : tie.Need-sub-most-2
 sub-most-2 c =
     let b = c .before .before .before .before in
-    let l = lent-accepted _ _ _ (sym (b .before .refusal .ensures) ∙ b .if1 .left) in
+    let l = lent-accepted _ _ _ _ (sym (b .before .refusal .ensures) ∙ b .if1 .left) in
     omega arith
 
 runs-fit-requires : tie.Need-runs-fit-requires
 runs-fit-requires c κs =
     let b = c .before .before .before .before .before in
-    let l = lent-accepted _ _ _ (sym (b .before .refusal .ensures) ∙ b .if1 .left) in
+    let l = lent-accepted _ _ _ _ (sym (b .before .refusal .ensures) ∙ b .if1 .left) in
     omega arith
 
 declined-requires-4 : tie.Need-declined-requires-4
@@ -77,7 +77,7 @@ write-call-requires : tie.Need-write-call-requires
 write-call-requires c κs =
     let n = c .before .before .before in
     let b = n .before .before .before .before .before .before in
-    let l = lent-accepted _ _ _ (sym (b .before .refusal .ensures) ∙ b .if1 .left) in
+    let l = lent-accepted _ _ _ _ (sym (b .before .refusal .ensures) ∙ b .if1 .left) in
     (omega arith, omega arith)
 
 assign-requires : tie.Need-assign-requires

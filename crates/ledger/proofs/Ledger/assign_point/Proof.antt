@@ -23,7 +23,7 @@ declined-requires-2 c κs = search needs
 
 returns-2 : tie.Need-returns-2
 returns-2 c =
-    let l = lent-accepted _ _ _ (sym (c .before .before .refusal .ensures) ∙ c .before .if2 .left) in
+    let l = lent-accepted _ _ _ _ (sym (c .before .before .refusal .ensures) ∙ c .before .if2 .left) in
     let w = ledger-words _ (l .good) in
     outside _ _ _ _ _ _ (c .declined2 .result .answer) (c .declined2 .result .head) (c .declined2 .ensures .0) (c .declined2 .ensures .1) (sym (c .before .before .refusal .ensures) ∙ c .before .if2 .left) (omega arith)
 

@@ -1,6 +1,5 @@
 -- `ledger::Ledger::open` meets its contract. Assumes nothing.
-use borrow.Author.Tests.{not-true, not-false}
-use Rattle.ledger.proofs.Opening.{open-header, open-capacity, open-words, open-journal, open-length, open-lent, open-run, open-done}
+use Rattle.ledger.proofs.Opening.{open-header, open-capacity, open-journal, open-length, open-lent, open-run, open-done}
 use borrow.Author.Needs.{needs}
 use Rattle.ledger.proofs.Ledger.open.Statement.{statement}
 use Rattle.ledger.proofs.Ledger.open.Tie as tie
@@ -56,16 +55,15 @@ returns-4 : tie.Need-returns-4
 returns-4 c =
     open-length _ _ _ _ _ (c .before .before .before .before .before .before .before .before .before .before .before .read-header .ensures) _ _ (c .before .before .before .before .before .before .before .before .before .words .given .1) _ (c .before .before .before .before .before .before .before .new .ensures) _ (c .before .before .before .before .before .set .given .1) (c .before .before .before .if1 .left) _ (c .before .before .check-length .ensures) (c .enum-told4 .given .1)
 
-cast-lent-enough : tie.Need-cast-lent-enough
-cast-lent-enough c = search needs
+cast-t17 : tie.Need-cast-t17
+cast-t17 c = search needs
 
-lent-enough-requires : tie.Need-lent-enough-requires
-lent-enough-requires c κs =
-    open-words (c .before .before .before .before .before .before .before .before .before .before .before .before .before .before .before .args .file .now) (c .before .before .before .before .before .before .before .before .before .before .before .before .before .before .before .args .limit) (c .before .before .before .before .before .before .before .before .before .before .before .before .before .before .before .args .storage .now) (c .before .before .before .before .before .before .before .before .before .before .before .before .before .before .before .args .journal .now) _ (c .before .before .before .before .before .before .before .before .before .before .before .read-header .ensures) _ _ (c .before .before .before .before .before .before .before .before .before .words .given .1) _ (c .before .before .before .before .before .before .before .new .ensures) _ (c .before .before .before .before .before .set .given .1)
+refusal-requires : tie.Need-refusal-requires
+refusal-requires c κs = search needs
 
 returns-5 : tie.Need-returns-5
 returns-5 c =
-    open-lent _ _ _ _ _ (c .before .before .before .before .before .before .before .before .before .before .before .before .before .read-header .ensures) _ _ (c .before .before .before .before .before .before .before .before .before .before .before .words .given .1) _ (c .before .before .before .before .before .before .before .before .before .new .ensures) _ (c .before .before .before .before .before .before .before .set .given .1) (c .before .before .before .before .before .if1 .left) _ (c .before .before .before .before .check-length .ensures) (c .before .before .enum-told3 .given .1) _ (c .before .lent-enough .ensures) (not-true _ (c .if2 .taken))
+    open-lent _ _ _ _ _ (c .before .before .before .before .before .before .before .before .before .before .before .before .before .read-header .ensures) _ _ (c .before .before .before .before .before .before .before .before .before .before .before .words .given .1) _ (c .before .before .before .before .before .before .before .before .before .new .ensures) _ (c .before .before .before .before .before .before .before .set .given .1) (c .before .before .before .before .before .if1 .left) _ (c .before .before .before .before .check-length .ensures) (c .before .before .enum-told3 .given .1) _ (c .before .refusal .ensures) (c .if2 .taken)
 
 check-runs-requires : tie.Need-check-runs-requires
 check-runs-requires c κs = search needs
@@ -76,16 +74,13 @@ enum-known-index c = search needs
 returns-6 : tie.Need-returns-6
 returns-6 c =
     let b = c .before .before .before .before in
-    open-run _ _ _ _ _ (b .before .before .before .before .before .before .before .before .before .before .before .before .before .read-header .ensures) _ _ (b .before .before .before .before .before .before .before .before .before .before .before .words .given .1) _ (b .before .before .before .before .before .before .before .before .before .new .ensures) _ (b .before .before .before .before .before .before .before .set .given .1) (b .before .before .before .before .before .if1 .left) _ (b .before .before .before .before .check-length .ensures) (b .before .before .enum-told3 .given .1) _ (b .before .lent-enough .ensures) (not-false _ (b .if2 .left)) _ (c .before .before .before .check-runs .ensures) _ (c .before .index .given .1)
+    open-run _ _ _ _ _ (b .before .before .before .before .before .before .before .before .before .before .before .before .before .read-header .ensures) _ _ (b .before .before .before .before .before .before .before .before .before .before .before .words .given .1) _ (b .before .before .before .before .before .before .before .before .before .new .ensures) _ (b .before .before .before .before .before .before .before .set .given .1) (b .before .before .before .before .before .if1 .left) _ (b .before .before .before .before .check-length .ensures) (b .before .before .enum-told3 .given .1) _ (b .before .refusal .ensures) (b .if2 .left) _ (c .before .before .before .check-runs .ensures) _ (c .before .index .given .1)
 
 enum-told-5 : tie.Need-enum-told-5
 enum-told-5 c = search needs
 
 assign-file-requires : tie.Need-assign-file-requires
 assign-file-requires c κs = search needs
-
-cast-t21 : tie.Need-cast-t21
-cast-t21 c = search needs
 
 same-length : tie.Need-same-length
 same-length c = search needs
@@ -96,7 +91,7 @@ returns-7 c =
     let r = c .before .before .before .before .before .before in
     let t = c .before .before .before .before in
     let a = c .before .before in
-    open-done _ _ _ _ _ (b .before .before .before .before .before .before .before .before .before .before .before .before .before .read-header .ensures) _ _ (b .before .before .before .before .before .before .before .before .before .before .before .words .given .1) _ (b .before .before .before .before .before .before .before .before .before .new .ensures) _ (b .before .before .before .before .before .before .before .set .given .1) (b .before .before .before .before .before .if1 .left) _ (b .before .before .before .before .check-length .ensures) (b .before .before .enum-told3 .given .1) _ (b .before .lent-enough .ensures) (not-false _ (b .if2 .left)) _ (r .check-runs .ensures) (t .enum-told5 .given .1) _ _ (a .assign-file .kept .1 .0) (a .assign-file .ensures)
+    open-done _ _ _ _ _ (b .before .before .before .before .before .before .before .before .before .before .before .before .before .read-header .ensures) _ _ (b .before .before .before .before .before .before .before .before .before .before .before .words .given .1) _ (b .before .before .before .before .before .before .before .before .before .new .ensures) _ (b .before .before .before .before .before .before .before .set .given .1) (b .before .before .before .before .before .if1 .left) _ (b .before .before .before .before .check-length .ensures) (b .before .before .enum-told3 .given .1) _ (b .before .refusal .ensures) (b .if2 .left) _ (r .check-runs .ensures) (t .enum-told5 .given .1) _ _ (a .assign-file .kept .1 .0) (a .assign-file .ensures)
 
 pub open-spec : {M : Type 1} → statement M
 open-spec =
@@ -118,14 +113,13 @@ open-spec =
     enum-told-3
     enum-told-4
     returns-4
-    cast-lent-enough
-    lent-enough-requires
+    cast-t17
+    refusal-requires
     returns-5
     check-runs-requires
     enum-known-index
     returns-6
     enum-told-5
     assign-file-requires
-    cast-t21
     same-length
     returns-7)

@@ -21,7 +21,7 @@ returns c =
 
 last-call-requires : tie.Need-last-call-requires
 last-call-requires c κs =
-    let a = lent-accepted _ _ _ (sym (c .before .refusal .ensures) ∙ c .if1 .left) in
+    let a = lent-accepted _ _ _ _ (sym (c .before .refusal .ensures) ∙ c .if1 .left) in
     omega (arith, a .used-most, a .journal-long)
 
 enum-known-runs : tie.Need-enum-known-runs
@@ -40,13 +40,13 @@ returns-2 c =
 
 mul-first : tie.Need-mul-first
 mul-first c =
-    let a = lent-accepted _ _ _ (sym (c .before .before .before .before .before .before .refusal .ensures) ∙ c .before .before .before .before .before .if1 .left) in
+    let a = lent-accepted _ _ _ _ (sym (c .before .before .before .before .before .before .refusal .ensures) ∙ c .before .before .before .before .before .if1 .left) in
     let r = last-read _ _ _ _ _ (c .before .before .before .before .last-call .ensures) (c .before .before .runs .given .1) in
     omega (arith, r .fits, a .used-most, a .journal-most)
 
 add-first : tie.Need-add-first
 add-first c =
-    let a = lent-accepted _ _ _ (sym (c .before .before .before .before .before .before .refusal .ensures) ∙ c .before .before .before .before .before .if1 .left) in
+    let a = lent-accepted _ _ _ _ (sym (c .before .before .before .before .before .before .refusal .ensures) ∙ c .before .before .before .before .before .if1 .left) in
     let r = last-read _ _ _ _ _ (c .before .before .before .before .last-call .ensures) (c .before .before .runs .given .1) in
     omega (arith, r .fits, a .used-most, a .journal-most)
 
