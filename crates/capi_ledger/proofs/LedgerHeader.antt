@@ -11,14 +11,14 @@ use Rattle.range_bitset.proofs.Heads.{accepted-refused}
 use Rattle.range_bitset.specs.Answers as reply
 use Rattle.ledger.specs.Machine.{Call, Wipe}
 use Rattle.ledger.specs.Memory.{Memory, memory, callRefusal}
-use Rattle.ledger.specs.Entries.{refusalOf, openRefusal}
+use Rattle.ledger.specs.Entries.{CalledEnsures, refusalOf, openRefusal}
 use Rattle.ledger.specs.declared.Called.{Called}
 use Rattle.ledger.specs.declared.Opened.{Opened}
 use Rattle.ledger.specs.declared.Opened.the-variants as opened
 use Rattle.capi_ledger.specs.declared.KladoLedger.{KladoLedger}
 use Rattle.capi_ledger.specs.declared.KladoLedgerAnswer.{KladoLedgerAnswer}
 use Rattle.capi_ledger.specs.declared.KladoOpened.{KladoOpened}
-use Rattle.capi_ledger.specs.LedgerTold.{ledgerOf, ledgerHead, unopened, ofOpened, ofCalled, Calls, CallTold, WipeTold, OpenTold}
+use Rattle.capi_ledger.specs.LedgerTold.{ledgerOf, ledgerHead, unopened, ofOpened, ofCalled, CallTold, WipeTold, OpenTold}
 use Rattle.capi.proofs.Header.{counted-refused, counted-bare}
 
 -- ---- new and open
@@ -85,7 +85,7 @@ six : (n : ℕ) → (r : Reply) → (Q : Type 0) → n ≡ refused r → Accepte
 six n r Q e (inl z) = inl (e ∙ accepted-refused r z)
 six n r Q e (inr s) = inr (e ∙ ap refused (s .0))
 
-declines : (k : Call) → (h : KladoLedger) → (st j st′ j′ : List ℕ) → (r : Called) → Calls k (ledgerOf h) st j st′ j′ r
+declines : (k : Call) → (h : KladoLedger) → (st j st′ j′ : List ℕ) → (r : Called) → CalledEnsures k (ledgerOf h) st j st′ j′ r
     → (c : KladoLedgerAnswer) → c ≡ ofCalled r → Declines (callRefusal k (memory (ledgerOf h) st j)) h st j c st′ j′
 declines k h st j st′ j′ r p c t =
     let same : c .refused ≡ refused (reply.ofCounted (r .answer)) = ap (λ (x : KladoLedgerAnswer). x .refused) t ∙ counted-refused (r .answer) in

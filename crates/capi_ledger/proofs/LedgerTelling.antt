@@ -6,11 +6,12 @@ use Prim.Native.Nat.{ℕ}
 use Rattle.ledger.specs.Machine.{Call, Wipe}
 use Rattle.ledger.specs.declared.Ledger.{Ledger}
 use Rattle.ledger.specs.declared.Called.{Called}
+use Rattle.ledger.specs.Entries.{CalledEnsures}
 use Rattle.capi_ledger.specs.declared.KladoLedger.{KladoLedger}
 use Rattle.capi_ledger.specs.declared.KladoLedgerAnswer.{KladoLedgerAnswer}
 use Rattle.capi.specs.declared.KladoAnswer.{KladoAnswer}
 use Rattle.capi.specs.Told.{ofCounted}
-use Rattle.capi_ledger.specs.LedgerTold.{ledgerOf, ledgerHead, withLedger, ofCalled, Calls, CallTold, WipeTold}
+use Rattle.capi_ledger.specs.LedgerTold.{ledgerOf, ledgerHead, withLedger, ofCalled, CallTold, WipeTold}
 use Rattle.capi.proofs.Telling.{telling}
 
 -- the answer's numbers, then the head with them
@@ -20,11 +21,11 @@ tell-called r k t h e =
     ap (λ (x : KladoAnswer). withLedger x h) t ∙ ap (λ (x : KladoLedger). withLedger (ofCounted (r .answer)) x) e
 
 pub tell-call : (k : Call) → (h : KladoLedger) → (g : Ledger) → g ≡ ledgerOf h → (st j st′ j′ : List ℕ) → (r : Called)
-    → Calls k g st j st′ j′ r → (c : KladoLedgerAnswer) → c ≡ ofCalled r → CallTold k h st j c st′ j′
+    → CalledEnsures k g st j st′ j′ r → (c : KladoLedgerAnswer) → c ≡ ofCalled r → CallTold k h st j c st′ j′
 tell-call k h g q st j st′ j′ r p c t =
-    telling Called KladoLedgerAnswer (λ x y. Calls k x st j st′ j′ y) ofCalled (ledgerOf h) g q r p c t
+    telling Called KladoLedgerAnswer (λ x y. CalledEnsures k x st j st′ j′ y) ofCalled (ledgerOf h) g q r p c t
 
 pub tell-wipe : (h : KladoLedger) → (g : Ledger) → g ≡ ledgerOf h → (st st′ : List ℕ) → (r : Called)
-    → ((j : List ℕ) → Calls Wipe g st j st′ j r) → (c : KladoLedgerAnswer) → c ≡ ofCalled r → WipeTold h st c st′
+    → ((j : List ℕ) → CalledEnsures Wipe g st j st′ j r) → (c : KladoLedgerAnswer) → c ≡ ofCalled r → WipeTold h st c st′
 tell-wipe h g q st st′ r p c t =
-    telling Called KladoLedgerAnswer (λ x y. (j : List ℕ) → Calls Wipe x st j st′ j y) ofCalled (ledgerOf h) g q r p c t
+    telling Called KladoLedgerAnswer (λ x y. (j : List ℕ) → CalledEnsures Wipe x st j st′ j y) ofCalled (ledgerOf h) g q r p c t

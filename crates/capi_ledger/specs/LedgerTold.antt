@@ -6,7 +6,7 @@ use Prim.Native.Nat.{ℕ}
 use Rattle.range_bitset.specs.Answers as reply
 use Rattle.ledger.specs.Machine.{Call, Wipe}
 use Rattle.ledger.specs.Memory.{memory}
-use Rattle.ledger.specs.Entries.{CallEnsures, OpenEnsures}
+use Rattle.ledger.specs.Entries.{CalledEnsures, OpenEnsures}
 use Rattle.ledger.specs.declared.Ledger.{Ledger}
 use Rattle.ledger.specs.declared.Called.{Called}
 use Rattle.ledger.specs.declared.Opened.{Opened}
@@ -52,14 +52,10 @@ ofCalled a = withLedger (ofCounted (a .answer)) (ledgerHead (a .head))
 abbrev pub OpenTold : List ℕ → ℕ → List ℕ → List ℕ → KladoOpened → List ℕ → Type 0
 OpenTold file j st journal c st′ = Told Opened KladoOpened (λ r. OpenEnsures file j st journal r st′) ofOpened c
 
--- what the ledger's entry promises of one call, with the slices before and after
-abbrev pub Calls : Call → Ledger → List ℕ → List ℕ → List ℕ → List ℕ → Called → Type 0
-Calls k h st j st′ j′ r = CallEnsures k (memory h st j) (reply.ofCounted (r .answer)) (memory (r .head) st′ j′)
-
 -- marking, clearing and take-back
 abbrev pub CallTold : Call → KladoLedger → List ℕ → List ℕ → KladoLedgerAnswer → List ℕ → List ℕ → Type 0
-CallTold k h st j c st′ j′ = Told Called KladoLedgerAnswer (Calls k (ledgerOf h) st j st′ j′) ofCalled c
+CallTold k h st j c st′ j′ = Told Called KladoLedgerAnswer (CalledEnsures k (ledgerOf h) st j st′ j′) ofCalled c
 
 -- wipe is lent no journal: its promise is for any
 abbrev pub WipeTold : KladoLedger → List ℕ → KladoLedgerAnswer → List ℕ → Type 0
-WipeTold h st c st′ = Told Called KladoLedgerAnswer (λ r. (j : List ℕ) → Calls Wipe (ledgerOf h) st j st′ j r) ofCalled c
+WipeTold h st c st′ = Told Called KladoLedgerAnswer (λ r. (j : List ℕ) → CalledEnsures Wipe (ledgerOf h) st j st′ j r) ofCalled c

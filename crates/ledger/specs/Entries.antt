@@ -9,10 +9,11 @@ use lib.ListN.{length, getD, drop}
 use Rattle.range_bitset.specs.Layout.{needed}
 use Rattle.positions.specs.Positions.{Positions}
 use Rattle.range_bitset.specs.Represents.{Represents}
-use Rattle.range_bitset.specs.Answers.{Reply, Number, Nothing, Refusal, refused, Accepted, allowedCapacity}
+use Rattle.range_bitset.specs.Answers.{Reply, Number, Nothing, Refusal, ofCounted, refused, Accepted, allowedCapacity}
 use Rattle.saved_list.specs.Format.{savedWords, savedCount, savedCapacity, savedPositions, headed, whole, firstBadRun}
 use Rattle.ledger.specs.Machine.{Machine, Standing, openedWith, Call, Range, Back, Wipe, needOf, step}
 use Rattle.ledger.specs.Memory.{Memory, memory, lentEnough, callRefusal, Holds}
+use Rattle.ledger.specs.declared.Called.{Called}
 use Rattle.ledger.specs.declared.Ledger.{Ledger}
 use Rattle.ledger.specs.declared.Opened.{Opened}
 use Rattle.ledger.specs.declared.Opened.the-variants as opened
@@ -72,6 +73,10 @@ pub record CallEnsures (c : Call) (before : Memory) (r : Reply) (next : Memory) 
   pub answers : (m : Machine) → Holds before m → r ≡ step m c .answer
   pub holds : (m : Machine) → Holds before m → Holds next (step m c .next)
   pub flag : (m : Machine) → Holds before m → next .head .set .allocated ≡ flagAfter (before .head .set .allocated) m c r
+
+-- the same of what an entry answers, with the numbers of the lent slices before and after
+abbrev pub CalledEnsures : Call → Ledger → List ℕ → List ℕ → List ℕ → List ℕ → Called → Type 0
+CalledEnsures c h st j st′ j′ r = CallEnsures c (memory h st j) (ofCounted (r .answer)) (memory (r .head) st′ j′)
 
 -- ---- new
 

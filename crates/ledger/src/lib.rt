@@ -8,11 +8,10 @@ ghost use mathlib.Core.List.{List};
 ghost use Prim.Native.Nat.{ℕ, _+_, _*_, _-_, _/_, _%_, _<_, _≤_};
 ghost use lib.ListN.{length};
 ghost use Rattle.positions.specs.Positions.{one};
-ghost use Rattle.range_bitset.specs.Answers.{ofCounted};
 ghost use Rattle.range_bitset.specs.declared.Counted.the-variants as counted;
 ghost use Rattle.ledger.specs.Machine.{Range, Back, Wipe, point};
-ghost use Rattle.ledger.specs.Memory.{memory, refusalFor};
-ghost use Rattle.ledger.specs.Entries.{CallEnsures, newOf, OpenEnsures};
+ghost use Rattle.ledger.specs.Memory.{refusalFor};
+ghost use Rattle.ledger.specs.Entries.{CalledEnsures, newOf, OpenEnsures};
 ghost use Rattle.ledger.specs.Inner.{Finds, RunsFit, CountsRuns, WritesCall, WritesRuns, readRuns, AssignsRuns, OpensRuns, lastOf, placeIn, countIn};
 use range_bitset::Counted;
 use range_bitset::Found;
@@ -118,35 +117,35 @@ impl Ledger {
 
     // Mark every position in `start..end`; answers how many changed.
     pub fn mark(self, storage: &mut [u64], journal: &mut [u32], start: usize, end: usize) -> Called
-        ensures { λ r. ⌜ CallEnsures (Range start end true) (memory self (now (storage .entry)) (now (journal .entry))) (ofCounted (r .answer)) (memory (r .head) (now (storage .exit)) (now (journal .exit))) ⌝ }
+        ensures { λ r. ⌜ CalledEnsures (Range start end true) self (now (storage .entry)) (now (journal .entry)) (now (storage .exit)) (now (journal .exit)) r ⌝ }
     {
         Self::assign(self, storage, journal, start, end, true)
     }
 
     // Clear every position in `start..end`; answers how many changed.
     pub fn clear(self, storage: &mut [u64], journal: &mut [u32], start: usize, end: usize) -> Called
-        ensures { λ r. ⌜ CallEnsures (Range start end false) (memory self (now (storage .entry)) (now (journal .entry))) (ofCounted (r .answer)) (memory (r .head) (now (storage .exit)) (now (journal .exit))) ⌝ }
+        ensures { λ r. ⌜ CalledEnsures (Range start end false) self (now (storage .entry)) (now (journal .entry)) (now (storage .exit)) (now (journal .exit)) r ⌝ }
     {
         Self::assign(self, storage, journal, start, end, false)
     }
 
     // Mark one position.
     pub fn mark_point(self, storage: &mut [u64], journal: &mut [u32], index: usize) -> Called
-        ensures { λ r. ⌜ CallEnsures (point index true) (memory self (now (storage .entry)) (now (journal .entry))) (ofCounted (r .answer)) (memory (r .head) (now (storage .exit)) (now (journal .exit))) ⌝ }
+        ensures { λ r. ⌜ CalledEnsures (point index true) self (now (storage .entry)) (now (journal .entry)) (now (storage .exit)) (now (journal .exit)) r ⌝ }
     {
         Self::assign_point(self, storage, journal, index, true)
     }
 
     // Clear one position.
     pub fn clear_point(self, storage: &mut [u64], journal: &mut [u32], index: usize) -> Called
-        ensures { λ r. ⌜ CallEnsures (point index false) (memory self (now (storage .entry)) (now (journal .entry))) (ofCounted (r .answer)) (memory (r .head) (now (storage .exit)) (now (journal .exit))) ⌝ }
+        ensures { λ r. ⌜ CalledEnsures (point index false) self (now (storage .entry)) (now (journal .entry)) (now (storage .exit)) (now (journal .exit)) r ⌝ }
     {
         Self::assign_point(self, storage, journal, index, false)
     }
 
     // Take the last standing call back: the runs that it changed get their old value. Answers how many positions changed.
     pub fn take_back(self, storage: &mut [u64], journal: &[u32]) -> Called
-        ensures { λ r. ⌜ CallEnsures Back (memory self (now (storage .entry)) (now (journal .entry))) (ofCounted (r .answer)) (memory (r .head) (now (storage .exit)) (now (journal .entry))) ⌝ }
+        ensures { λ r. ⌜ CalledEnsures Back self (now (storage .entry)) (now (journal .entry)) (now (storage .exit)) (now (journal .entry)) r ⌝ }
     {
         let refused = Self::refusal(self, self.journal, storage.len(), journal.len());
         if refused != 0 {
@@ -173,7 +172,7 @@ impl Ledger {
 
     // Empty the set and the journal; answers how many positions the set had. The journal's numbers are left.
     pub fn wipe(self, storage: &mut [u64]) -> Called
-        ensures { λ r. ⌜ ((j : List ℕ) → CallEnsures Wipe (memory self (now (storage .entry)) j) (ofCounted (r .answer)) (memory (r .head) (now (storage .exit)) j)) ⌝ }
+        ensures { λ r. ⌜ ((j : List ℕ) → CalledEnsures Wipe self (now (storage .entry)) j (now (storage .exit)) j r) ⌝ }
     {
         let refused = Self::refusal(self, 0, storage.len(), 0);
         if refused != 0 {
@@ -223,7 +222,7 @@ impl Ledger {
         end: usize,
         value: bool,
     ) -> Called
-        ensures { λ r. ⌜ CallEnsures (Range start end value) (memory head (now (storage .entry)) (now (journal .entry))) (ofCounted (r .answer)) (memory (r .head) (now (storage .exit)) (now (journal .exit))) ⌝ }
+        ensures { λ r. ⌜ CalledEnsures (Range start end value) head (now (storage .entry)) (now (journal .entry)) (now (storage .exit)) (now (journal .exit)) r ⌝ }
     {
         let refused = Self::refusal(head, head.journal, storage.len(), journal.len());
         if refused != 0 {
@@ -273,7 +272,7 @@ impl Ledger {
         index: usize,
         value: bool,
     ) -> Called
-        ensures { λ r. ⌜ CallEnsures (point index value) (memory head (now (storage .entry)) (now (journal .entry))) (ofCounted (r .answer)) (memory (r .head) (now (storage .exit)) (now (journal .exit))) ⌝ }
+        ensures { λ r. ⌜ CalledEnsures (point index value) head (now (storage .entry)) (now (journal .entry)) (now (storage .exit)) (now (journal .exit)) r ⌝ }
     {
         if index == usize::MAX {
             let refused = Self::refusal(head, head.journal, storage.len(), journal.len());

@@ -6,7 +6,7 @@ ghost use Prim.Native.Nat.{ℕ};
 ghost use Rattle.range_bitset.specs.Answers.{ofCounted};
 ghost use Rattle.ledger.specs.Machine.{Range, Back, Wipe};
 ghost use Rattle.ledger.specs.Memory.{memory};
-ghost use Rattle.ledger.specs.Entries.{CallEnsures};
+ghost use Rattle.ledger.specs.Entries.{CallEnsures, CalledEnsures};
 ghost use Rattle.ledger.specs.History.{Chain};
 use ledger::Called;
 use ledger::Ledger;
@@ -21,7 +21,7 @@ pub fn assign(
     end: usize,
     value: bool,
 ) -> Called
-    ensures { λ r. ⌜ CallEnsures (Range start end value) (memory head (now (storage .entry)) (now (journal .entry))) (ofCounted (r .answer)) (memory (r .head) (now (storage .exit)) (now (journal .exit))) ⌝ }
+    ensures { λ r. ⌜ CalledEnsures (Range start end value) head (now (storage .entry)) (now (journal .entry)) (now (storage .exit)) (now (journal .exit)) r ⌝ }
 {
     if value {
         head.mark(storage, journal, start, end)
@@ -73,7 +73,7 @@ pub fn mark_through(
     end: usize,
     value: bool,
 ) -> Called
-    ensures { λ out. ⌜ CallEnsures (Range start end value) (memory head (now (storage .entry)) (now (journal .entry))) (ofCounted (out .answer)) (memory (out .head) (now (storage .exit)) (now (journal .exit))) ⌝ }
+    ensures { λ out. ⌜ CalledEnsures (Range start end value) head (now (storage .entry)) (now (journal .entry)) (now (storage .exit)) (now (journal .exit)) out ⌝ }
 {
     let mut lent = head;
     let answer = mark_lent(&mut lent, storage, journal, start, end, value);
@@ -82,7 +82,7 @@ pub fn mark_through(
 
 // The lent form of take-back behind a by-value one.
 pub fn take_back_through(head: Ledger, storage: &mut [u64], journal: &[u32]) -> Called
-    ensures { λ out. ⌜ CallEnsures Back (memory head (now (storage .entry)) (now (journal .entry))) (ofCounted (out .answer)) (memory (out .head) (now (storage .exit)) (now (journal .entry))) ⌝ }
+    ensures { λ out. ⌜ CalledEnsures Back head (now (storage .entry)) (now (journal .entry)) (now (storage .exit)) (now (journal .entry)) out ⌝ }
 {
     let mut lent = head;
     let answer = take_back_lent(&mut lent, storage, journal);
@@ -91,7 +91,7 @@ pub fn take_back_through(head: Ledger, storage: &mut [u64], journal: &[u32]) -> 
 
 // The lent form of wipe behind a by-value one.
 pub fn wipe_through(head: Ledger, storage: &mut [u64]) -> Called
-    ensures { λ out. ⌜ ((j : List ℕ) → CallEnsures Wipe (memory head (now (storage .entry)) j) (ofCounted (out .answer)) (memory (out .head) (now (storage .exit)) j)) ⌝ }
+    ensures { λ out. ⌜ ((j : List ℕ) → CalledEnsures Wipe head (now (storage .entry)) j (now (storage .exit)) j out) ⌝ }
 {
     let mut lent = head;
     let answer = wipe_lent(&mut lent, storage);

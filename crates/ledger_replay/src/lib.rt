@@ -5,7 +5,7 @@ ghost use Prim.Native.Nat.{_≤_, min};
 ghost use lib.ListN.{length};
 ghost use Rattle.range_bitset.specs.Answers.{ofCounted};
 ghost use Rattle.ledger.specs.Memory.{memory};
-ghost use Rattle.ledger.specs.Entries.{CallEnsures};
+ghost use Rattle.ledger.specs.Entries.{CalledEnsures};
 ghost use Rattle.ledger_replay.specs.Replay.{encoded, callOf, codeOf, ReplaysNew, ReplaysOpen};
 ghost use Rattle.ledger_replay.specs.Inner.{Chained, Continues};
 use ledger::Called;
@@ -130,7 +130,7 @@ fn one_call(
     start: usize,
     end: usize,
 ) -> Called
-    ensures { λ r. ⌜ CallEnsures (callOf kind start end) (memory head (now (storage .entry)) (now (journal .entry))) (ofCounted (r .answer)) (memory (r .head) (now (storage .exit)) (now (journal .exit))) ⌝ }
+    ensures { λ r. ⌜ CalledEnsures (callOf kind start end) head (now (storage .entry)) (now (journal .entry)) (now (storage .exit)) (now (journal .exit)) r ⌝ }
 {
     match kind {
         0 => head.mark(storage, journal, start, end),

@@ -89,7 +89,7 @@ pub assignedRuns-then : (s : Positions) (rs : List Run) (r : Run) (v : Bool)
 assignedRuns-then s [] r v = refl
 assignedRuns-then s (x ∷ xs) r v = assignedRuns-then (assigned s (x .start) (x .end) v) xs r v
 
--- (d) the changed count is the sum of the changed runs' lengths
+-- the changed count is the sum of the changed runs' lengths
 pub changed-lengths : (s : Positions) (a e : ℕ) (v : Bool) → lengths (changedRuns s a e v) ≡ changedCount s a e v
 unfolding changedRuns changedCount
 changed-lengths s a e v = runs-lengths (lacking s v) a e

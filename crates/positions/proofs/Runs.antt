@@ -125,7 +125,7 @@ runs-covered d a e i = go (leb a e) refl
         rw (runs-empty d a e (omega arith))
         (elim (place a e i) [ inside u v w ↦ absurd (omega arith) | before u w ↦ rw w | behind u w ↦ rw w ])
 
--- (d) the changed count is the sum of the changed runs' lengths
+-- the runs' lengths sum to the count
 pub runs-lengths : (d : Positions) (a e : ℕ) → lengths (runs d a e) ≡ count d a e
 runs-lengths d a e = go (leb a e) refl
   where
@@ -137,7 +137,7 @@ runs-lengths d a e = go (leb a e) refl
         let h : e < a = leb-false a e x in
         rw (runs-empty d a e (omega arith), count-empty d a e (omega arith))
 
--- (a) giving the changed runs the other value back restores the set
+-- runs given a value, at one position
 pub assignedRuns-at : (rs : List Run) (s : Positions) (v : Bool) (i : ℕ) → assignedRuns s rs v i ≡ cond (covered rs i) v (s i)
 unfolding assigned
 assignedRuns-at [] s v i = refl
@@ -150,6 +150,7 @@ assignedRuns-at (r ∷ rs) s v i =
     swap false true = refl
     swap false false = refl
 
+-- giving the changed runs the other value back restores the set
 pub take-back-restores : (s : Positions) (a e : ℕ) (v : Bool)
     → assignedRuns (assigned s a e v) (changedRuns s a e v) (not v) ≡ s
 unfolding assigned changedRuns
