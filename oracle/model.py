@@ -1,5 +1,5 @@
 #!/usr/bin/env python3
-"""A plain model of `sheetmark`, written from the scope's text alone and not from the port.
+"""A plain model of `sheetmark`, written from 01's text alone and not from the port.
 
     oracle/model.py < COMMANDS
 
@@ -15,7 +15,7 @@ CAPACITIES = {64 * 2**k for k in range(13)}  # 64 x W, W a power of two from 1 t
 
 
 class Refused(Exception):
-    """A call that is declined, with the scope's number."""
+    """A call that is declined, with 01's number."""
 
     def __init__(self, number):
         self.number = number

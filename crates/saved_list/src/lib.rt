@@ -1,5 +1,6 @@
 // The saved list (`MSL`): a reader over borrowed bytes. Each entry is total on any bytes, writes nothing, and answers what
 // the definitions of specs/ say of the bytes. Opening calls `read_header`, then `check_length`, then `check_runs`.
+// Assumes nothing of its callers: no entry has a `requires`.
 ghost use mathlib.Core.Path.{_≡_};
 ghost use Prim.Native.Nat.{_+_, _*_, _≤_};
 ghost use lib.ListN.{length};
@@ -11,6 +12,7 @@ ghost use Rattle.saved_list.specs.Answers.{headerAnswer, headerOf, lengt
 const MARK: [u8; 3] = *b"MSL";
 
 const VERSION: u16 = 1;
+
 // Bytes of the header, and of one run.
 const HEADER_SIZE: usize = 11;
 

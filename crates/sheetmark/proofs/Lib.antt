@@ -2,3 +2,4 @@
 pub mod Performing
 pub mod Answering
 pub mod Program
+pub mod Example
