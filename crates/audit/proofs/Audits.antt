@@ -85,8 +85,8 @@ module _ (h : RangeBitset) (st : List ℕ) (e : storageRefusal h (length st) ≡
       held (tops.Tops m) = m
       held (tops.Refused k) = m
 
-  pub tops-shown : (k : ℕ) → r ≡ tops.Refused k → ⊥
-  tops-shown k p = let z : _≡_ {A = ℕ} 1 0 = ap tag (sym p ∙ s .shows e) in absurd (omega arith)
+  pub tops-not-refused : (k : ℕ) → r ≡ tops.Refused k → ⊥
+  tops-not-refused k p = let z : _≡_ {A = ℕ} 1 0 = ap tag (sym p ∙ s .shows e) in absurd (omega arith)
     where
       tag : ShownTops → ℕ
       tag (tops.Tops m) = 0
@@ -144,8 +144,8 @@ module _ (h : RangeBitset) (st : List ℕ) (b : ℕ) (e : storageRefusal h (leng
       let x = shown-full (h .words) st b (stateOf (h .words) st b) r shown-as n p in
       sound-with (other Full full-mixed (x .0)) (x .1 ∙ sym (full-counted (h .words) st b (x .0)))
 
-  pub never-refused : (k : ℕ) → r ≡ block.Refused k → ⊥
-  never-refused k p = shown-refused (h .words) st b (stateOf (h .words) st b) r shown-as k p
+  pub block-not-refused : (k : ℕ) → r ≡ block.Refused k → ⊥
+  block-not-refused k p = shown-refused (h .words) st b (stateOf (h .words) st b) r shown-as k p
 
   module _ (m : MixedBlock) (p : r ≡ block.Mixed m) where
     pub block-words : InWords st b (m .valid)

@@ -28,9 +28,9 @@ pub record Audits (P : Type 0) (n : ℕ) (r : Audited) : Type 0 where
   pub no : r ≡ audited.Unsound → P → ⊥
 
 -- the nonzero and the full mask of the words or blocks `valid`: no bit past those, and full lies within nonzero
-pub record SoundMasks (any all valid : ℕ) : Type 0 where
-  pub fits : (j : ℕ) → bit any j ≡ true → bit valid j ≡ true
-  pub within-nonzero : (j : ℕ) → bit all j ≡ true → bit any j ≡ true
+pub record SoundMasks (nonzero full valid : ℕ) : Type 0 where
+  pub fits : (j : ℕ) → bit nonzero j ≡ true → bit valid j ≡ true
+  pub within-nonzero : (j : ℕ) → bit full j ≡ true → bit nonzero j ≡ true
 
 -- the words of block b that m has lie in the storage; they are neither 0 nor all ones
 abbrev pub InWords : List ℕ → ℕ → ℕ → Type 0

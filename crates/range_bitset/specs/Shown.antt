@@ -1,5 +1,5 @@
--- What the entries for the audit show of a storage, on any memory. Nothing here need be believed: the audit's promise speaks of
--- none of it. Assumes nothing.
+-- The promises of the two entries for the audit: what they show of a storage, on any memory and whatever the head's flag. The audit's
+-- own promise speaks of none of it. Assumes nothing.
 use mathlib.Core.Path.{_≡_}
 use mathlib.Core.List.{List}
 use Prim.Native.Nat.{ℕ, _*_, _-_, _/_, _^_}

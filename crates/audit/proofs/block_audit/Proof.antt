@@ -1,5 +1,5 @@
 -- `audit::block_audit` meets its contract: one law of Audits for each case that is shown. Assumes nothing.
-use Rattle.audit.proofs.Audits.{unsound, empty-told, full-told, block-words, mixed-sound, mixed-unsound, never-refused}
+use Rattle.audit.proofs.Audits.{unsound, empty-told, full-told, block-words, mixed-sound, mixed-unsound, block-not-refused}
 use Rattle.audit.specs.Sound.{Words}
 use Rattle.range_bitset.proofs.Heads.{accepted}
 use native.Mathlib.Omega.{arith}
@@ -47,7 +47,7 @@ returns-4 c =
     unsound (mixed-unsound (c .before .before .before .before .before .before .before .args .head) (c .before .before .before .before .before .before .before .args .storage .now) (c .before .before .before .before .before .before .before .args .block) (c .before .before .before .before .before .before .before .pre .0) (c .before .before .before .before .before .before .before .pre .1) _ (c .before .before .before .before .before .block-of .ensures) _ (c .before .before .before .mixed .given .1) u (c .before .mixed-block-sound .ensures) (c .if1 .left))
 
 returns-5 : tie.Need-returns-5
-returns-5 c = unsound (λ o. absurd (never-refused (c .before .before .before .before .args .head) (c .before .before .before .before .args .storage .now) (c .before .before .before .before .args .block) (c .before .before .before .before .pre .0) (c .before .before .before .before .pre .1) _ (c .before .before .block-of .ensures) _ (c .enum-told2 .given .1)))
+returns-5 c = unsound (λ o. absurd (block-not-refused (c .before .before .before .before .args .head) (c .before .before .before .before .args .storage .now) (c .before .before .before .before .args .block) (c .before .before .before .before .pre .0) (c .before .before .before .before .pre .1) _ (c .before .before .block-of .ensures) _ (c .enum-told2 .given .1)))
 
 pub block-audit-spec : {M : Type 1} → statement M
 block-audit-spec =

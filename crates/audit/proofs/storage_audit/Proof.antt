@@ -1,5 +1,5 @@
 -- `audit::storage_audit` meets its contract. Assumes nothing.
-use Rattle.audit.proofs.Audits.{unsound, tops-shown, tops-stop, storage-told}
+use Rattle.audit.proofs.Audits.{unsound, tops-not-refused, tops-stop, storage-told}
 use Rattle.audit.specs.Sound.{Words}
 use borrow.Author.Tests.{not-true, not-false}
 use native.Mathlib.Omega.{arith}
@@ -31,7 +31,7 @@ returns-2 c =
     storage-told (c .before .before .before .before .before .before .before .before .args .head) (c .before .before .before .before .before .before .before .before .args .storage .now) (c .before .before .before .before .before .before .before .before .pre) _ (c .before .before .before .before .before .before .top-masks .ensures) _ u (c .before .before .before .before .tops .given .1) (c .before .before .masks-sound .ensures) (not-false _ (c .before .if1 .left)) (c .blocks-audit .ensures)
 
 returns-3 : tie.Need-returns-3
-returns-3 c = unsound (λ o. absurd (tops-shown (c .before .before .before .before .args .head) (c .before .before .before .before .args .storage .now) (c .before .before .before .before .pre) _ (c .before .before .top-masks .ensures) _ (c .enum-told .given .1)))
+returns-3 c = unsound (λ o. absurd (tops-not-refused (c .before .before .before .before .args .head) (c .before .before .before .before .args .storage .now) (c .before .before .before .before .pre) _ (c .before .before .top-masks .ensures) _ (c .enum-told .given .1)))
 
 pub storage-audit-spec : {M : Type 1} → statement M
 storage-audit-spec =
