@@ -20,7 +20,6 @@ use Rattle.range_bitset.specs.Shown.{topsOf, blockOf, TopsEnsures, BlockEnsures
 use Rattle.audit.specs.Entry.{AuditEnsures}
 use Rattle.audit.specs.Inner.{Tells, Audits, BlockAudited, BlocksAudited, StorageAudited, SoundMasks, InWords, SoundMixed, SoundAt, SoundBlocks}
 use Rattle.range_bitset.specs.declared.RangeBitset.{RangeBitset}
-use Rattle.range_bitset.specs.declared.Counted.the-variants as counted
 use Rattle.range_bitset.specs.declared.MixedBlock.{MixedBlock}
 use Rattle.range_bitset.specs.declared.State.{State}
 use Rattle.range_bitset.specs.declared.State.the-variants.{Empty, Mixed, Full}

@@ -3,9 +3,7 @@
 use mathlib.Core.Bool.{false}
 use mathlib.Core.List.{List}
 use Prim.Native.Nat.{ℕ}
-use Rattle.range_bitset.specs.Answers as reply
 use Rattle.ledger.specs.Machine.{Call, Wipe}
-use Rattle.ledger.specs.Memory.{memory}
 use Rattle.ledger.specs.Entries.{CalledEnsures, OpenEnsures}
 use Rattle.ledger.specs.declared.Ledger.{Ledger}
 use Rattle.ledger.specs.declared.Called.{Called}

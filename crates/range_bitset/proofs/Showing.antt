@@ -10,7 +10,6 @@ use Rattle.range_bitset.specs.Answers.{storageRefusal, pointRefusal}
 use Rattle.range_bitset.specs.Inner.{Spans, mixedCount}
 use Rattle.range_bitset.specs.Shown.{Shows, TopsEnsures, mixedOf, blockOf, BlockEnsures}
 use Rattle.range_bitset.specs.declared.RangeBitset.{RangeBitset}
-use Rattle.range_bitset.specs.declared.Counted.the-variants as counted
 use Rattle.range_bitset.specs.declared.MixedBlock.{MixedBlock}
 use Rattle.range_bitset.specs.declared.ShownBlock.{ShownBlock}
 use Rattle.range_bitset.specs.declared.ShownTops.the-variants as tops

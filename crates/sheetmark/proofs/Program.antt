@@ -1,22 +1,19 @@
 -- A run of the program is the plain program's: one command, lines, the parts of an input. Assumes nothing.
 use mathlib.Core.Path.{_≡_, refl, sym, ap, _∙_, subst, ap₂}
-use mathlib.Core.Bool.{Bool, true, false, _&&_, cond, true≢false}
+use mathlib.Core.Bool.{Bool, true, false, _&&_, cond}
 use mathlib.Core.List.{List, [], _∷_, _++_}
-use Prim.Native.Nat.{ℕ, _+_, _*_, _/_, _%_, _≤_, _<_}
+use Prim.Native.Nat.{ℕ, _+_, _/_, _%_, _≤_}
 use native.Mathlib.Omega.{arith}
 use lib.Dec.{eqb, leb}
 use lib.ListN.{length}
-use borrow.Author.Tests.{le-leb, leb-true, leb-false}
+use borrow.Author.Tests.{le-leb, leb-true}
 use Rattle.positions.specs.Positions.{Positions, count, first}
 use Rattle.positions.proofs.Bools.{and-left, and-right}
 use Rattle.range_bitset.specs.Layout.{allowed, needed}
-use Rattle.range_bitset.specs.Represents.{capacityOf}
 use Rattle.range_bitset.specs.Answers.{Reply, Number, Nothing, Refusal, refused, ofFound, allowedCapacity, rangeRefusal}
-use Rattle.range_bitset.specs.Entries.{Answers}
-use Rattle.ledger.specs.Machine.{Machine, fresh, setOf, Call, Range, Back, Wipe, step}
-use Rattle.ledger.specs.Memory.{Memory, memory, lentEnough, Holds}
+use Rattle.ledger.specs.Machine.{Machine, fresh, setOf, Call, Range, Back, Wipe}
+use Rattle.ledger.specs.Memory.{Memory, lentEnough, Holds}
 use Rattle.ledger.specs.Entries.{newHead, newOf}
-use Rattle.ledger.specs.declared.Opened.{Opened}
 use Rattle.ledger.specs.declared.Opened.the-variants as opened
 use Rattle.range_bitset.proofs.Heads.{allowed-bounds}
 use Rattle.ledger.proofs.Histories.{holds-fresh, accepted}
@@ -25,10 +22,10 @@ use Rattle.command_lines.specs.declared.Command.the-variants as command
 use Rattle.command_lines.specs.declared.Answer.{Answer}
 use Rattle.command_lines.specs.declared.Answer.the-variants as answer
 use Rattle.command_lines.specs.Lines.{meaning}
-use Rattle.command_lines.specs.Input.{lines, linesFrom}
+use Rattle.command_lines.specs.Input.{linesFrom}
 use Rattle.sheetmark.specs.Performing.{answerOf, low32, IsBad, Starts, Calls, Asks, Seeks, Performs}
-use Rattle.sheetmark.specs.Answering.{State, AnswersLine, withRoom, Serves, none, line, texts, Parts, Ends}
-use Rattle.sheetmark.specs.Program.{Present, NoLedger, With, Response, started, called, asked, ofPresent, respond, responses, presentAfter, Follows, Lent, writtenOut, Answered, end, part, joined, RunsAsPlain}
+use Rattle.sheetmark.specs.Answering.{State, AnswersLine, withRoom, Serves, none, line, texts}
+use Rattle.sheetmark.specs.Program.{Present, NoLedger, With, Response, started, called, asked, respond, responses, presentAfter, Follows, Lent, Answered, end, part, joined, RunsAsPlain}
 
 -- ---- one command
 
