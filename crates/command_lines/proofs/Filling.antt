@@ -1,24 +1,16 @@
--- Laws of putting text into the output: the test for room, and stores one after the other. Assumes nothing.
+-- Laws of putting text into the output: stores one after the other, and an answer with and without room. Assumes nothing.
 use mathlib.Core.Path.{_≡_, refl, sym, ap, _∙_}
-use mathlib.Core.Bool.{Bool, true, false}
 use mathlib.Core.List.{List, [], _∷_, _++_}
-use Prim.Native.Nat.{ℕ, suc, _+_, _-_, _/_, _%_, _≤_, _<_}
+use Prim.Native.Nat.{ℕ, suc, _+_, _/_, _%_, _≤_, _<_}
 use native.Mathlib.Omega.{arith}
 use native.Mathlib.Numerals.{add-one}
-use lib.ListN.{length, drop, getD, set, drop-of-length-le}
-use lib.Seq.{sets, drop-cons, set-out}
-use lib.Dec.{leb}
-use borrow.Author.Tests.{leb-true, leb-false, le-leb, lt-leb}
+use lib.ListN.{length, take, drop, getD, set, length-append, drop-of-length-le}
+use lib.Seq.{sets, sets-eq, drop-cons, set-out, take-at, length-take-le}
+use borrow.Author.Tests.{le-leb, lt-leb}
 use Rattle.command_lines.specs.declared.Answer.{Answer}
 use Rattle.command_lines.specs.declared.Answer.the-variants.{Refused}
-use Rattle.command_lines.specs.Answers.{digits, refused, printed, hasRoom, outAfter, usedAfter}
+use Rattle.command_lines.specs.Answers.{digits, refused, printed, outAfter, usedAfter}
 use Rattle.command_lines.proofs.Decimals.{digits-one, digits-more}
-
-pub room-below : (used size : ℕ) → 12 ≤ size → leb used (size - 12) ≡ leb (used + 12) size
-room-below used size h = go (leb (used + 12) size) refl where
-  go : (s : Bool) → leb (used + 12) size ≡ s → leb used (size - 12) ≡ s
-  go true e = le-leb used (size - 12) (omega (arith, leb-true (used + 12) size e))
-  go false e = lt-leb used (size - 12) (omega (arith, leb-false (used + 12) size e))
 
 -- one text behind the other
 pub sets-append : (l : List ℕ) (i : ℕ) (a b : List ℕ) → sets (sets l i a) (i + length a) b ≡ sets l i (a ++ b)
@@ -26,6 +18,12 @@ sets-append l i [] b = ap (λ (k : ℕ). sets l k b) (omega arith)
 sets-append l i (x ∷ a) b =
     let s : i + suc (length a) ≡ suc i + length a = omega arith in
     rw s (sets-append (set l i x) (suc i) a b)
+
+-- what stands up to the end of a text that was put behind the first i bytes
+pub sets-take : (l : List ℕ) (i : ℕ) (w : List ℕ) → i + length w ≤ length l → take (i + length w) (sets l i w) ≡ take i l ++ w
+sets-take l i w h =
+    ap (take (i + length w)) (sets-eq w l i h)
+    ∙ take-at (take i l ++ w) (drop (i + length w) l) (i + length w) (length-append (take i l) w ∙ ap (λ (k : ℕ). k + length w) (length-take-le i l (omega arith)))
 
 -- the bytes from index j of a text on, stored from i + j on: the first of them, then the others
 pub sets-next : (l : List ℕ) (i j : ℕ) (w : List ℕ) → j < length w
@@ -57,17 +55,24 @@ set-newline l at n = sets-append l at (digits n) (10 ∷ [])
 -- ---- an answer
 
 module _ (out : List ℕ) (used : ℕ) (a : Answer) where
-  -- what `put_answer` owes: where the output is filled up to, and the output
+  -- where there is room
+  pub put-there : used + 12 ≤ length out → (usedAfter out used a ≡ used + length (printed a)) × (outAfter out used a ≡ sets out used (printed a))
+  put-there h = let e = le-leb (used + 12) (length out) h in (simp e, simp e)
+
+  -- what `put_answer` owes: where the output is filled up to, the output, and that at most 12 bytes are put
   abbrev pub Put : ℕ → List ℕ → Type 0
-  Put r after = (r ≡ usedAfter out used a) × (after ≡ outAfter out used a)
+  Put r after = (r ≡ usedAfter out used a) × ((after ≡ outAfter out used a) × (r ≤ used + 12))
 
-  pub put-none : hasRoom out used ≡ false → Put used out
-  put-none e = (simp e, simp e)
+  pub put-none : length out < used + 12 → Put used out
+  put-none h = let e = lt-leb (used + 12) (length out) h in (simp e, (simp e, omega arith))
 
-  pub put-all : (a′ : Answer) (r : ℕ) (after : List ℕ) → a ≡ a′ → hasRoom out used ≡ true
+  pub put-all : (a′ : Answer) (r : ℕ) (after : List ℕ) → a ≡ a′ → used + 12 ≤ length out → length (printed a′) ≤ 12
       → r ≡ used + length (printed a′) → after ≡ sets out used (printed a′) → Put r after
-  put-all a′ r after s e p q =
-      (simp e (p ∙ ap (λ (x : Answer). used + length (printed x)) (sym s)), simp e (q ∙ ap (λ (x : Answer). sets out used (printed x)) (sym s)))
+  put-all a′ r after s h m p q =
+      let e = le-leb (used + 12) (length out) h in (
+        simp e (p ∙ ap (λ (x : Answer). used + length (printed x)) (sym s)),
+        (simp e (q ∙ ap (λ (x : Answer). sets out used (printed x)) (sym s)), omega arith),
+      )
 
 -- `refused` and a space, then the number and the newline
 pub put-refused : (out : List ℕ) (used k mid r : ℕ) (out₁ after : List ℕ) → mid ≡ used + 8 → out₁ ≡ sets out used refused

@@ -8,7 +8,7 @@ ghost use lib.ListN.{length, drop, set};
 ghost use lib.Seq.{sets};
 ghost use Rattle.command_lines.specs.Lines.{fields, meaning, pair, with};
 ghost use Rattle.command_lines.specs.Inner.{starts, readAt, finish, keywordOf};
-ghost use Rattle.command_lines.specs.Answers.{digits, hasRoom, outAfter, usedAfter};
+ghost use Rattle.command_lines.specs.Answers.{digits, outAfter, usedAfter};
 ghost use Rattle.command_lines.specs.Input.{Gathers, keptNext};
 
 // What a line asks for: `new` with capacity and journal length, the calls with start and end, or none of these.
@@ -186,16 +186,6 @@ pub fn parse(line: &[u8]) -> Command
 
 // ---- what is printed
 
-// Whether the output, filled up to `used`, has room for any answer's line: 12 bytes, as `refused 255` and a newline need.
-pub fn has_room(out: &[u8], used: usize) -> bool
-    ensures { λ r. ⌜ r ≡ hasRoom (now (out .entry)) used ⌝ }
-{
-    if out.len() < 12 {
-        return false;
-    }
-    used <= out.len() - 12
-}
-
 // Puts the bytes of `text` into the output at `at`, and answers where they end.
 fn put(out: &mut [u8], at: usize, text: &[u8]) -> usize
     requires { ⌜ at + length (now text) ≤ length (now out) ⌝ }
@@ -236,13 +226,14 @@ fn put_number_line(out: &mut [u8], at: usize, n: u32) -> usize
     end + 1
 }
 
-// Puts an answer's line into the output, which is filled up to `used`, and answers up to where it is filled then. Where
-// fewer than 12 bytes are free, nothing is put.
+// Puts an answer's line into the output, which is filled up to `used`, and answers up to where it is filled then. The longest
+// line is `refused 255` and a newline, 12 bytes. Where fewer are free, nothing is put.
 pub fn put_answer(out: &mut [u8], used: usize, answer: Answer) -> usize
     ensures { λ r. ⌜ r ≡ usedAfter (now (out .entry)) used answer ⌝ }
     ensures { λ r. ⌜ now (out .exit) ≡ outAfter (now (out .entry)) used answer ⌝ }
+    ensures { λ r. ⌜ r ≤ used + 12 ⌝ }
 {
-    if !has_room(out, used) {
+    if out.len() < 12 || used > out.len() - 12 {
         return used;
     }
     match answer {

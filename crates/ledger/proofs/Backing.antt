@@ -59,8 +59,11 @@ module _ (h : Ledger) (st j : List ℕ) where
           refuses = λ w. absurd (w z);
           only-6 = λ w. inl (e .accepts ok);
           exactly-6 = λ w s q. accepted-refused (ofCounted (r .answer)) (e .accepts ok) ∙ needs-none (h .journal - h .used);
-          empty-6 = λ w o. e .accepts ok;
+          short-6 = λ w o. e .accepts ok;
           unchanged = λ w. absurd (w (e .accepts ok));
+          same-words = e .same-words;
+          same-limit = refl;
+          used-most = λ w. omega arith;
           storage-kept = e .kept;
           journal-kept = λ i w. refl;
           answers = λ m q. e .answers ok (setOf m) (q .set) ∙ ap (λ (x : ℕ). Number (count (setOf m) 0 x)) (q .capacity);
@@ -292,8 +295,11 @@ module _ (h : Ledger) (st j : List ℕ) where
           refuses = λ w. absurd (w accepted);
           only-6 = λ w. inl tt;
           exactly-6 = λ w s q. needs-none (h .journal - h .used);
-          empty-6 = λ w o. tt;
+          short-6 = λ w o. tt;
           unchanged = λ w. absurd (w tt);
+          same-words = a .reassigns .same-words;
+          same-limit = refl;
+          used-most = λ w. omega (arith, r .fits, lent .used-most);
           storage-kept = a .reassigns .kept;
           journal-kept = λ i w. refl;
           answers = λ m q. stands-some m q (λ x. Number count-back ≡ step m Back .answer) (λ c cs e. rw (step-back m c cs e) (ap Number (done m q c cs e .answered)));

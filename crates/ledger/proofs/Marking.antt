@@ -22,8 +22,9 @@ use Rattle.range_bitset.specs.declared.RangeBitset.{RangeBitset}
 use Rattle.range_bitset.specs.declared.Found.{Found as Place}
 use Rattle.range_bitset.specs.declared.Found.the-variants as place
 use Rattle.range_bitset.proofs.Heads.{range-accepted}
-use Rattle.ledger.specs.Machine.{needOf}
+use Rattle.ledger.specs.Machine.{Call, Range, Back, Wipe, needOf}
 use Rattle.ledger.specs.Journal.{pairs, entry, written}
+use Rattle.ledger.specs.Entries.{callNeed, mostNeed}
 use Rattle.ledger.specs.Inner.{Finds, RunsFit, CountsRuns, WritesRuns, WritesCall, placeIn}
 
 -- ---- a search
@@ -92,13 +93,20 @@ counting-most h st a e v most n from l m k = record { most-runs = l; counted = �
 
 -- ---- fitting
 
+-- no call needs more than its length lets it
+pub need-most : (c : Call) (s : Positions) → callNeed c s ≤ mostNeed c
+unfolding needOf
+need-most (Range a e v) s = omega (arith, changed-few s a e v)
+need-most Back s = omega arith
+need-most Wipe s = omega arith
+
 -- a range of at most 2 · most positions
 pub fits-short : (h : RangeBitset) (st : List ℕ) (a e : ℕ) (v : Bool) (most : ℕ) → e - a ≤ 2 * most → RunsFit h st a e v most true
 fits-short h st a e v most l =
-    record { empty = λ x. refl; fits = λ z s r. sym (le-leb (length (changedRuns s a e v)) most (omega (arith, changed-few s a e v))) }
+    record { short = λ x. refl; fits = λ z s r. sym (le-leb (length (changedRuns s a e v)) most (omega (arith, changed-few s a e v))) }
 
-pub fits-counted : (h : RangeBitset) (st : List ℕ) (a e : ℕ) (v : Bool) (most n : ℕ) → a < e → CountsRuns h st a e v (most + 1) n → RunsFit h st a e v most (leb n most)
-fits-counted h st a e v most n l c = record { empty = λ x. absurd (omega arith); fits = λ z s r. by z s r (leb n most) refl }
+pub fits-counted : (h : RangeBitset) (st : List ℕ) (a e : ℕ) (v : Bool) (most n : ℕ) → 2 * most < e - a → CountsRuns h st a e v (most + 1) n → RunsFit h st a e v most (leb n most)
+fits-counted h st a e v most n l c = record { short = λ x. absurd (omega arith); fits = λ z s r. by z s r (leb n most) refl }
   where
     by : rangeRefusal h (length st) e ≡ 0 → (s : Positions) → Represents h st s → (b : Bool) → leb n most ≡ b → b ≡ leb (length (changedRuns s a e v)) most
     by z s r true x = sym (le-leb (length (changedRuns s a e v)) most (omega (arith, leb-true n most x, c .counted z s r)))

@@ -20,7 +20,7 @@ use Rattle.range_bitset.proofs.Heads.{accepted-refused, range-accepts}
 use Rattle.ledger.specs.Machine.{Machine, Range, setOf, used, needOf, step, nextOf}
 use Rattle.ledger.specs.Journal.{journalOf}
 use Rattle.ledger.specs.Memory.{Memory, memory, lentRefusal, callRefusal, Holds}
-use Rattle.ledger.specs.Entries.{CallEnsures, flagAfter}
+use Rattle.ledger.specs.Entries.{CallEnsures, flagAfter, mostNeed}
 use Rattle.ledger.specs.Inner.{RunsFit, WritesCall}
 use Rattle.ledger.specs.declared.Ledger.{Ledger}
 use Rattle.ledger.proofs.Machines.{stayed, went, step-outside, step-full, step-range, kept-step, set-after-range, needs-added, journal-added}
@@ -73,7 +73,7 @@ module _ (h : Ledger) (st j : List ℕ) (a e : ℕ) (v : Bool) where
   -- more numbers are needed than the journal has left
   full : (r : Counted) (h′ : Ledger) → r ≡ counted.Refused 6 → h′ ≡ h → lentRefusal h (length st) (length j) ≡ 0 → e ≤ capacityOf (h .set)
       → ((callRefusal (Range a e v) before ≡ 0 → ⊥) → callRefusal (Range a e v) before ≡ 6)
-      → ((s : Positions) → Represents (h .set) st s → h .journal - h .used < needOf s a e v) → (callRefusal (Range a e v) before ≡ 0 → e ≤ a → ⊥)
+      → ((s : Positions) → Represents (h .set) st s → h .journal - h .used < needOf s a e v) → (callRefusal (Range a e v) before ≡ 0 → mostNeed (Range a e v) ≤ h .journal - h .used → ⊥)
       → CallEnsures (Range a e v) before (ofCounted r) (memory h′ st j)
   full r h′ p q l n six more some =
       declined-as (Range a e v) h st j 6 r h′ p q
@@ -81,8 +81,11 @@ module _ (h : Ledger) (st j : List ℕ) (a e : ℕ) (v : Bool) where
         refuses = λ z. ap Refusal (sym (six z));
         only-6 = λ z. inr (refl, refl);
         exactly-6 = λ z s x. sym (ap (λ (b : Bool). cond b 0 6) (lt-leb (needOf s a e v) (h .journal - h .used) (more s x)));
-        empty-6 = λ z o. absurd (some z (leb-true e a o));
+        short-6 = λ z o. absurd (some z o);
         unchanged = λ z. refl;
+        same-words = refl;
+        same-limit = refl;
+        used-most = λ z. absurd z;
         storage-kept = refl;
         journal-kept = λ i z. refl;
         answers = λ m x. rw (stays m x);
@@ -98,8 +101,7 @@ module _ (h : Ledger) (st j : List ℕ) (a e : ℕ) (v : Bool) where
       → h .used ≡ h .journal → CallEnsures (Range a e v) before (ofCounted r) (memory h′ st j)
   unfolding needOf
   none-left r h′ p q l n o =
-      full r h′ p q l n (λ z. call-none-left l n o) (λ s x. omega arith)
-      (λ z. absurd (let y : _≡_ {A = ℕ} 6 0 = sym (call-none-left l n o) ∙ z in omega arith))
+      full r h′ p q l n (λ z. call-none-left l n o) (λ s x. omega arith) (λ z w. omega arith)
 
   -- more runs than fit
   pub too-many : (most : ℕ) (fit : Bool) (r : Counted) (h′ : Ledger) → r ≡ counted.Refused 6 → h′ ≡ h → lentRefusal h (length st) (length j) ≡ 0
@@ -109,7 +111,7 @@ module _ (h : Ledger) (st j : List ℕ) (a e : ℕ) (v : Bool) where
   too-many most fit r h′ p q l n some o c d =
       full r h′ p q l n (λ z. absurd (z (call-passes l n some)))
       (λ s x. omega (arith, leb-false (length (changedRuns s a e v)) most (sym (c .fits (accepted l n) s x) ∙ d)))
-      (λ z o. true≢false (sym (c .empty o) ∙ d))
+      (λ z w. true≢false (sym (c .short (omega arith)) ∙ d))
 
   -- ---- done: the runs are recorded, then the range is given its value
 
@@ -184,8 +186,11 @@ module _ (h : Ledger) (st j : List ℕ) (a e : ℕ) (v : Bool) where
           exactly-6 = λ z s x.
               accepted-refused (ofCounted (r .answer)) (changes .accepts passes)
               ∙ sym (ap (λ (b : Bool). cond b 0 6) (le-leb (needOf s a e v) (h .journal - h .used) (omega (arith, room, need-is s x))));
-          empty-6 = λ z o. changes .accepts passes;
+          short-6 = λ z o. changes .accepts passes;
           unchanged = λ z. absurd (z (changes .accepts passes));
+          same-words = changes .same-words;
+          same-limit = refl;
+          used-most = λ z. room;
           storage-kept = changes .kept;
           journal-kept = writes .others;
           answers = λ m x. rw (goes m x) (changes .answers passes (setOf m) (x .set));

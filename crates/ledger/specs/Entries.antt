@@ -3,7 +3,7 @@ use mathlib.Core.Path.{_≡_}
 use mathlib.Core.Logic.{_⊎_}
 use mathlib.Core.Bool.{Bool, true, false, not, _&&_, _||_, cond}
 use mathlib.Core.List.{List, [], _∷_}
-use Prim.Native.Nat.{ℕ, _-_, _/_, _≤_, _<_}
+use Prim.Native.Nat.{ℕ, _+_, _*_, _-_, _/_, _≤_, _<_}
 use lib.Dec.{eqb, leb, ltb}
 use lib.ListN.{length, getD, drop}
 use Rattle.range_bitset.specs.Layout.{needed}
@@ -32,11 +32,12 @@ callNeed (Range a e v) s = needOf s a e v
 callNeed Back s = 0
 callNeed Wipe s = 0
 
--- a marking or a clearing of a range that holds nothing: it needs 1 number over every set
-abbrev pub emptyRange : Call → Bool
-emptyRange (Range a e v) = leb e a
-emptyRange Back = false
-emptyRange Wipe = false
+-- how many it can need at most, whatever the set: two runs have a position between them, so that n positions have at most
+-- (n + 1) / 2 runs (law `need-most` in proofs/Marking)
+abbrev pub mostNeed : Call → ℕ
+mostNeed (Range a e v) = 1 + 2 * ((e - a + 1) / 2)
+mostNeed Back = 0
+mostNeed Wipe = 0
 
 -- the last standing call is a clearing that changed positions, so that taking it back sets some
 abbrev pub restores : List Standing → Bool
@@ -60,12 +61,17 @@ pub record CallEnsures (c : Call) (before : Memory) (r : Reply) (next : Memory) 
   -- only of a marking or clearing
   pub refuses : (callRefusal c before ≡ 0 → ⊥) → r ≡ Refusal (callRefusal c before)
   pub only-6 : callRefusal c before ≡ 0 → Accepted r ⊎ ((r ≡ Refusal 6) × (ranges c ≡ true))
-  -- 6 for want of numbers alone, whatever the journal holds: for every set that the memory represents, and for an empty range
+  -- 6 for want of numbers alone, whatever the journal holds: for every set that the memory represents; and on any memory never
+  -- where the call can't need more than are left
   pub exactly-6 : callRefusal c before ≡ 0 → (s : Positions) → Represents (before .head .set) (before .storage) s
       → refused r ≡ cond (leb (callNeed c s) (before .head .journal - before .head .used)) 0 6
-  pub empty-6 : callRefusal c before ≡ 0 → emptyRange c ≡ true → Accepted r
+  pub short-6 : callRefusal c before ≡ 0 → mostNeed c ≤ before .head .journal - before .head .used → Accepted r
   -- a refused call changes nothing
   pub unchanged : (Accepted r → ⊥) → next ≡ before
+  -- W and J stay, and an accepted call leaves U within J
+  pub same-words : next .head .set .words ≡ before .head .set .words
+  pub same-limit : next .head .journal ≡ before .head .journal
+  pub used-most : Accepted r → next .head .used ≤ next .head .journal
   -- storage past the needed numbers, and journal numbers outside old U to new U, are as they were
   pub storage-kept : drop (needed (before .head .set .words)) (next .storage) ≡ drop (needed (before .head .set .words)) (before .storage)
   pub journal-kept : (i : ℕ) → (i < before .head .used) ⊎ (next .head .used ≤ i) → getD (next .journal) i 0 ≡ getD (before .journal) i 0

@@ -32,9 +32,9 @@ pub record CountsRuns (h : RangeBitset) (st : List ℕ) (a e : ℕ) (v : Bool) (
   pub most-runs : r ≤ most
   pub counted : rangeRefusal h (length st) e ≡ 0 → (s : Positions) → Represents h st s → r ≡ min most (length (changedRuns s a e v))
 
--- whether giving a..e the value v changes at most `most` runs
+-- whether giving a..e the value v changes at most `most` runs; on any memory yes where a..e has no room for more
 pub record RunsFit (h : RangeBitset) (st : List ℕ) (a e : ℕ) (v : Bool) (most : ℕ) (r : Bool) : Type 0 where
-  pub empty : e ≤ a → r ≡ true
+  pub short : e - a ≤ 2 * most → r ≡ true
   pub fits : rangeRefusal h (length st) e ≡ 0 → (s : Positions) → Represents h st s → r ≡ leb (length (changedRuns s a e v)) most
 
 -- the runs that a call changes, written into the journal from u on where they are at most `most`

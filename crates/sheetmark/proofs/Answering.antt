@@ -1,114 +1,73 @@
--- Laws of answering lines: room made in the output, one line more, and a part of the input from its start to its end. Assumes
--- nothing.
-use mathlib.Core.Path.{_≡_, refl, sym, ap, _∙_}
+-- Laws of answering lines: one line more, and a part of the input from its start to its end. Assumes nothing.
+use mathlib.Core.Path.{_≡_, refl, sym, ap, ap₂, _∙_}
 use mathlib.Core.Bool.{Bool, true, false, cond}
-use mathlib.Core.List.{List, [], _∷_, _++_, append-assoc}
-use Prim.Native.Nat.{ℕ, _+_, _≤_, _<_, min}
+use mathlib.Core.List.{List, [], _∷_, _++_, append-assoc, append-nil}
+use Prim.Native.Nat.{ℕ, _+_, _*_, _≤_, _<_, min}
 use native.Mathlib.Omega.{arith}
 use lib.ListN.{length, take, drop, length-append, length-drop, drop-of-length-le}
-use lib.Seq.{sets, drop-drop, length-sets}
-use borrow.Author.Tests.{le-leb}
+use lib.Seq.{drop-drop}
 use Rattle.command_lines.specs.declared.Gathered.{Gathered}
 use Rattle.command_lines.specs.declared.Answer.{Answer}
 use Rattle.command_lines.specs.Lines.{meaning}
-use Rattle.command_lines.specs.Answers.{printed, hasRoom, outAfter, usedAfter}
+use Rattle.command_lines.specs.Answers.{printed}
 use Rattle.command_lines.specs.Input.{linesFrom, upTo, ends, Gathers, Holds}
-use Rattle.command_lines.proofs.Filling.{sets-append}
+use Rattle.command_lines.proofs.Filling.{sets-take}
 use Rattle.command_lines.proofs.Buffers.{holds-none, gathers-holds, held-means, lines-ended, lines-open, up-to-open}
-use Rattle.sheetmark.specs.declared.Session.{Session}
-use Rattle.sheetmark.specs.Answering.{State, state, AnswersLine, withRoom, Serves, none, line, texts, Appends, Parts, Ends}
-
--- ---- room in the output
-
-module _ (s n : Session) (out st j bytes : List ℕ) (t : State) where
-  pub room-there : hasRoom out (s .filled) ≡ true → n ≡ s → AnswersLine bytes (state n out st j) t
-      → AnswersLine bytes (withRoom (state s out st j)) t
-  room-there e p a = rw e (rw p at a)
-
-  pub room-made : hasRoom out (s .filled) ≡ false → n .filled ≡ 0 → n .head ≡ s .head → n .live ≡ s .live
-      → AnswersLine bytes (state n out st j) t → AnswersLine bytes (withRoom (state s out st j)) t
-  room-made e u h v a = rw e (rw (u, h, v) at a)
-
--- an output of 12 bytes has room once it is written out
-has-room : (s : State) → 12 ≤ length (s .out) → hasRoom (s .out) (withRoom s .filled) ≡ true
-has-room s h = go (hasRoom (s .out) (s .filled)) refl where
-  go : (b : Bool) → hasRoom (s .out) (s .filled) ≡ b → hasRoom (s .out) (cond b (s .filled) 0) ≡ true
-  go true e = e
-  go false e = le-leb 12 (length (s .out)) h
+use Rattle.sheetmark.specs.Answering.{State, AnswersLine, Serves, none, line, texts, Part, End, PartAnswered}
+use Rattle.sheetmark.specs.Inner.{LineAnswered}
 
 -- ---- one line more
 
-serves-more : {s t u : State} {l : List ℕ} {ls : List (List ℕ)} {rs : List Answer} → Serves s ls rs t → hasRoom (t .out) (withRoom t .filled) ≡ true
-    → (a : AnswersLine l (withRoom t) u) → Serves s (ls ++ (l ∷ [])) (rs ++ (a .answer ∷ [])) u
-serves-more none h a = line h a none
-serves-more (line k b r) h a = line k b (serves-more r h a)
+serves-more : {s t u : State} {l : List ℕ} {ls : List (List ℕ)} {a : Answer} {rs : List Answer} → Serves s ls rs t → AnswersLine l t a u
+    → Serves s (ls ++ (l ∷ [])) (rs ++ (a ∷ [])) u
+serves-more none a = line a none
+serves-more (line b r) a = line b (serves-more r a)
 
 -- a line that means the same is answered the same
-abbrev answers-same : (l k : List ℕ) (s t : State) → meaning l ≡ meaning k → AnswersLine l s t → AnswersLine k s t
-answers-same l k s t e a =
-    record {
-      answer = a .answer;
-      performs = rw e at (a .performs);
-      same-storage = a .same-storage;
-      same-journal = a .same-journal;
-      output = a .output;
-      filled-to = a .filled-to;
-    }
+answers-same : (l k : List ℕ) (s : State) (a : Answer) (t : State) → meaning l ≡ meaning k → AnswersLine l s a t → AnswersLine k s a t
+answers-same l k s a t e p =
+    record { performs = rw e at (p .performs); same-storage = p .same-storage; same-journal = p .same-journal }
 
--- ---- answers one behind the other
+pub texts-append : (rs qs : List Answer) → texts (rs ++ qs) ≡ texts rs ++ texts qs
+texts-append [] qs = refl
+texts-append (r ∷ rs) qs = ap (λ (x : List ℕ). printed r ++ x) (texts-append rs qs) ∙ sym (append-assoc (printed r) (texts rs) (texts qs))
 
--- where there is room, the answer is put at `filled`
-module _ (out : List ℕ) (used : ℕ) (a : Answer) (e : hasRoom out used ≡ true) where
-  out-there : outAfter out (cond (hasRoom out used) used 0) a ≡ sets out used (printed a)
-  out-there = simp e
-
-  used-there : usedAfter out (cond (hasRoom out used) used 0) a ≡ used + length (printed a)
-  used-there = simp e
-
-serves-appends : {s t : State} {ls : List (List ℕ)} {rs : List Answer} → Serves s ls rs t → s .filled + length (texts rs) + 12 ≤ length (s .out)
-    → Appends rs s t
-serves-appends none h = record { output = refl; filled-to = omega arith }
-serves-appends {s = s} (line {t = m} {rs = rs} k a r) h =
-    let p : List ℕ = printed (a .answer) in
-    let n : length (p ++ texts rs) ≡ length p + length (texts rs) = length-append p (texts rs) in
-    let e : hasRoom (s .out) (s .filled) ≡ true = le-leb (s .filled + 12) (length (s .out)) (omega arith) in
-    let o : m .out ≡ sets (s .out) (s .filled) p = a .output ∙ out-there (s .out) (s .filled) (a .answer) e in
-    let u : m .filled ≡ s .filled + length p = a .filled-to ∙ used-there (s .out) (s .filled) (a .answer) e in
-    let size : length (m .out) ≡ length (s .out) = ap length o ∙ length-sets (s .out) (s .filled) p in
-    let i = serves-appends r (omega arith) in
-    record {
-      output = i .output ∙ rw (o, u) (sets-append (s .out) (s .filled) p (texts rs));
-      filled-to = omega (arith, i .filled-to);
-    }
+texts-more : (rs : List Answer) (a : Answer) → texts (rs ++ (a ∷ [])) ≡ texts rs ++ printed a
+texts-more rs a = texts-append rs (a ∷ []) ∙ ap (λ (x : List ℕ). texts rs ++ x) (append-nil (printed a))
 
 -- ---- a part of the input, answered up to an index
 
-pub record SoFar (text l : List ℕ) (at : ℕ) (s t : State) (kept : ℕ) (buffer : List ℕ) : Type 0 where
+pub record SoFar (text l : List ℕ) (at : ℕ) (s t : State) (out : List ℕ) (filled kept : ℕ) (buffer : List ℕ) : Type 0 where
   pub finished : List (List ℕ)
   pub rest : List ℕ
   pub answers : List Answer
   pub cut : (more : List ℕ) → linesFrom l (text ++ more) ≡ finished ++ linesFrom rest (drop at text ++ more)
   pub serves : Serves s finished answers t
+  pub output : take filled out ≡ texts answers
   pub holds : Holds buffer kept rest
 
-pub so-far-none : (text l : List ℕ) (s : State) (kept : ℕ) (buffer : List ℕ) → Holds buffer kept l → SoFar text l 0 s s kept buffer
-so-far-none text l s kept buffer h = record { finished = []; rest = l; answers = []; cut = λ more. refl; serves = none; holds = h }
+pub so-far-none : (text l : List ℕ) (s : State) (out : List ℕ) (filled kept : ℕ) (buffer : List ℕ) → filled ≡ 0 → Holds buffer kept l
+    → SoFar text l 0 s s out filled kept buffer
+so-far-none text l s out filled kept buffer z h =
+    record { finished = []; rest = l; answers = []; cut = λ more. refl; serves = none; output = ap (λ (n : ℕ). take n out) z; holds = h }
 
-pub so-far-all : (text l : List ℕ) (at : ℕ) (s t : State) (kept : ℕ) (buffer : List ℕ) → length text ≤ at → SoFar text l at s t kept buffer
-    → Parts text l s t kept buffer
-so-far-all text l at s t kept buffer h f =
+pub so-far-all : (text l : List ℕ) (at : ℕ) (s t : State) (out : List ℕ) (filled kept : ℕ) (buffer : List ℕ) → length text ≤ at
+    → SoFar text l at s t out filled kept buffer → PartAnswered text l s t (take filled out) kept buffer
+so-far-all text l at s t out filled kept buffer h f =
     record {
-      finished = f .finished;
       rest = f .rest;
-      answers = f .answers;
-      cut = λ more. f .cut more ∙ ap (λ (d : List ℕ). f .finished ++ linesFrom (f .rest) (d ++ more)) (drop-of-length-le text h);
-      serves = f .serves;
-      appends = serves-appends (f .serves);
+      part = record {
+        finished = f .finished;
+        answers = f .answers;
+        cut = λ more. f .cut more ∙ ap (λ (d : List ℕ). f .finished ++ linesFrom (f .rest) (d ++ more)) (drop-of-length-le text h);
+        serves = f .serves;
+        output = f .output;
+      };
       holds = f .holds;
     }
 
-module _ (text l : List ℕ) (at : ℕ) (s t : State) (kept : ℕ) (buffer : List ℕ) (r : Gathered) (after : List ℕ)
-    (f : SoFar text l at s t kept buffer) (g : Gathers text at buffer kept r after) where
+module _ (text l : List ℕ) (at : ℕ) (s t : State) (out : List ℕ) (filled kept : ℕ) (buffer : List ℕ) (r : Gathered) (after : List ℕ)
+    (f : SoFar text l at s t out filled kept buffer) (g : Gathers text at buffer kept r after) where
   held : Holds after (r .kept) (f .rest ++ upTo (drop at text))
   held = gathers-holds text at buffer kept r after (f .rest) g (f .holds)
 
@@ -119,9 +78,9 @@ module _ (text l : List ℕ) (at : ℕ) (s t : State) (kept : ℕ) (buffer : Lis
       drop-drop _ at text ∙ ap (λ (k : ℕ). drop k text) (sym n)
 
   -- a line ended, and is answered
-  pub so-far-line : r .ended ≡ true → 27 < length after → 12 ≤ length (t .out) → (u : State) (n k : ℕ) → n ≡ 0
-      → AnswersLine (take k after) (withRoom t) u → k ≡ r .kept → SoFar text l (r .at) s u n after
-  so-far-line h size room u n k z a same =
+  pub so-far-line : r .ended ≡ true → 27 < length after → filled + 12 ≤ length out → (u : State) (out′ : List ℕ) (filled′ n : ℕ) → n ≡ 0
+      → LineAnswered (take (r .kept) after) t u out filled out′ filled′ → SoFar text l (r .at) s u out′ filled′ n after
+  so-far-line h size room u out′ filled′ n z a =
       let e : ends (drop at text) ≡ true = sym (g .ended) ∙ h in
       let whole : List ℕ = f .rest ++ upTo (drop at text) in
       record {
@@ -132,12 +91,16 @@ module _ (text l : List ℕ) (at : ℕ) (s t : State) (kept : ℕ) (buffer : Lis
             f .cut more
             ∙ ap (λ (x : List (List ℕ)). f .finished ++ x) (lines-ended (f .rest) (drop at text) more e ∙ ap (λ (d : List ℕ). whole ∷ linesFrom [] (d ++ more)) (next-line e))
             ∙ sym (append-assoc (f .finished) (whole ∷ []) (linesFrom [] (drop (r .at) text ++ more)));
-        serves = serves-more (f .serves) (has-room t room) (answers-same (take k after) whole (withRoom t) u (ap (λ (i : ℕ). meaning (take i after)) same ∙ held-means after whole (r .kept) size held) a);
+        serves = serves-more (f .serves) (answers-same (take (r .kept) after) whole t (a .answer) u (held-means after whole (r .kept) size held) (a .answers));
+        output = ap₂ take (a .filled-to) (a .output)
+            ∙ sets-take out filled (printed (a .answer)) (omega (arith, a .most, a .filled-to))
+            ∙ ap (λ (x : List ℕ). x ++ printed (a .answer)) (f .output)
+            ∙ sym (texts-more (f .answers) (a .answer));
         holds = rw z (holds-none after);
       }
 
   -- the text ended before the line
-  pub so-far-open : r .ended ≡ false → SoFar text l (r .at) s t (r .kept) after
+  pub so-far-open : r .ended ≡ false → SoFar text l (r .at) s t out filled (r .kept) after
   so-far-open h =
       let e : ends (drop at text) ≡ false = sym (g .ended) ∙ h in
       let n : r .at ≡ at + length (upTo (drop at text)) + 0 = g .next ∙ ap (λ (b : Bool). at + length (upTo (drop at text)) + cond b 1 0) e in
@@ -150,15 +113,16 @@ module _ (text l : List ℕ) (at : ℕ) (s t : State) (kept : ℕ) (buffer : Lis
             f .cut more
             ∙ ap (λ (x : List (List ℕ)). f .finished ++ x) (lines-open (f .rest) (drop at text) more e ∙ ap (λ (d : List ℕ). linesFrom (f .rest ++ upTo (drop at text)) (d ++ more)) (sym (drop-of-length-le text end)));
         serves = f .serves;
+        output = f .output;
         holds = held;
       }
 
 -- ---- the input's end
 
-pub ends-none : (l buffer : List ℕ) (s : State) (kept : ℕ) → Holds buffer kept l → kept ≡ 0 → 27 < length buffer → Ends l s s
-ends-none l buffer s kept h z size = go l (omega (arith, h .filled)) where
-  go : (k : List ℕ) → length k ≡ 0 → Ends k s s
-  go [] e = record { answers = []; serves = none }
+pub end-none : (l buffer : List ℕ) (s : State) (kept : ℕ) → Holds buffer kept l → kept ≡ 0 → 27 < length buffer → End l s s []
+end-none l buffer s kept h z size = go l (omega (arith, h .filled)) where
+  go : (k : List ℕ) → length k ≡ 0 → End k s s []
+  go [] e = record { answers = []; serves = none; output = refl }
   go (b ∷ k) e = absurd (omega (arith, e))
 
 -- of one newline the bytes kept are the only line
@@ -170,10 +134,10 @@ only-line l r (x ∷ []) rs s t p q =
     rw y at q
 only-line l r (x ∷ y ∷ e) rs s t p q = absurd (omega (arith, ap length p, length-append e (r ∷ [])))
 
-pub ends-line : (l buffer : List ℕ) (s t : State) (kept n : ℕ) (after : List ℕ) → Holds buffer kept l → (kept ≡ 0 → ⊥)
-    → Parts (10 ∷ []) l s t n after → Ends l s t
+pub end-line : (l buffer : List ℕ) (s t : State) (out : List ℕ) (kept n : ℕ) (after : List ℕ) → Holds buffer kept l → (kept ≡ 0 → ⊥)
+    → PartAnswered (10 ∷ []) l s t out n after → End l s t out
 unfolding linesFrom
-ends-line l buffer s t kept n after h some p = go l (h .filled) (only-line l (p .rest) (p .finished) (p .answers) s t (p .cut (10 ∷ [])) (p .serves)) where
-  go : (k : List ℕ) → kept ≡ min (length k) (length buffer) → Serves s (k ∷ []) (p .answers) t → Ends k s t
+end-line l buffer s t out kept n after h some a = go l (h .filled) (only-line l (a .rest) (a .part .finished) (a .part .answers) s t (a .part .cut (10 ∷ [])) (a .part .serves)) where
+  go : (k : List ℕ) → kept ≡ min (length k) (length buffer) → Serves s (k ∷ []) (a .part .answers) t → End k s t out
   go [] z q = absurd (some (omega (arith, z)))
-  go (b ∷ k) z q = record { answers = p .answers; serves = q }
+  go (b ∷ k) z q = record { answers = a .part .answers; serves = q; output = a .part .output }

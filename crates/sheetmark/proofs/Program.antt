@@ -1,18 +1,19 @@
 -- A run of the program is the plain program's: one command, lines, the parts of an input. Assumes nothing.
 use mathlib.Core.Path.{_≡_, refl, sym, ap, _∙_, subst, ap₂}
 use mathlib.Core.Bool.{Bool, true, false, _&&_, cond}
-use mathlib.Core.List.{List, [], _∷_, _++_}
-use Prim.Native.Nat.{ℕ, _+_, _/_, _%_, _≤_}
+use mathlib.Core.List.{List, [], _∷_, _++_, append-assoc, append-nil}
+use Prim.Native.Nat.{ℕ, _+_, _-_, _/_, _%_, _^_, _≤_, _<_}
 use native.Mathlib.Omega.{arith}
 use lib.Dec.{eqb, leb}
-use lib.ListN.{length}
+use lib.ListN.{length, length-append}
 use borrow.Author.Tests.{le-leb, leb-true}
 use Rattle.positions.specs.Positions.{Positions, count, first}
 use Rattle.positions.proofs.Bools.{and-left, and-right}
 use Rattle.range_bitset.specs.Layout.{allowed, needed}
 use Rattle.range_bitset.specs.Answers.{Reply, Number, Nothing, Refusal, refused, ofFound, allowedCapacity, rangeRefusal}
 use Rattle.ledger.specs.Machine.{Machine, fresh, setOf, Call, Range, Back, Wipe}
-use Rattle.ledger.specs.Memory.{Memory, lentEnough, Holds}
+use Rattle.ledger.specs.Memory.{Memory, memory, lentEnough, Holds}
+use Rattle.ledger.specs.declared.Ledger.{Ledger}
 use Rattle.ledger.specs.Entries.{newHead, newOf}
 use Rattle.ledger.specs.declared.Opened.the-variants as opened
 use Rattle.range_bitset.proofs.Heads.{allowed-bounds}
@@ -22,10 +23,14 @@ use Rattle.command_lines.specs.declared.Command.the-variants as command
 use Rattle.command_lines.specs.declared.Answer.{Answer}
 use Rattle.command_lines.specs.declared.Answer.the-variants as answer
 use Rattle.command_lines.specs.Lines.{meaning}
-use Rattle.command_lines.specs.Input.{linesFrom}
+use Rattle.command_lines.specs.Input.{lines, linesFrom, unended}
+use Rattle.command_lines.specs.Input as input
+use Rattle.command_lines.proofs.Buffers.{holds-none}
 use Rattle.sheetmark.specs.Performing.{answerOf, low32, IsBad, Starts, Calls, Asks, Seeks, Performs}
-use Rattle.sheetmark.specs.Answering.{State, AnswersLine, withRoom, Serves, none, line, texts}
-use Rattle.sheetmark.specs.Program.{Present, NoLedger, With, Response, started, called, asked, respond, responses, presentAfter, Follows, Lent, Answered, end, part, joined, RunsAsPlain}
+use Rattle.sheetmark.specs.Answering.{State, AnswersLine, Serves, none, line, texts, ReadAnswered}
+use Rattle.sheetmark.specs.Program.{Present, NoLedger, With, Response, started, called, asked, respond, responses, presentAfter, Follows, Lent, Reading, part, Run, end, joined, outputFor, Answered, RunsAsPlain, AnswersAtOnce, Served, ended, too-long}
+use Rattle.sheetmark.specs.Program as program
+use Rattle.sheetmark.proofs.Answering.{texts-append}
 
 -- ---- one command
 
@@ -124,32 +129,125 @@ module _ (live live′ : Bool) (x y : Memory) (a : Answer) where
 
 -- ---- lines
 
-lent-next : (l : List ℕ) (s t : State) → AnswersLine l (withRoom s) t → Lent (s .ledger) → Lent (t .ledger)
-lent-next l s t a e = record { storage = omega (arith, a .same-storage, e .storage); journal = omega (arith, a .same-journal, e .journal) }
+lent-next : (l : List ℕ) (s : State) (a : Answer) (t : State) → AnswersLine l s a t → Lent (s .ledger) → Lent (t .ledger)
+lent-next l s a t p e = record { storage = omega (arith, p .same-storage, e .storage); journal = omega (arith, p .same-journal, e .journal) }
 
-pub serves-follows : {s t : State} {ls : List (List ℕ)} {rs : List Answer} → Serves s ls rs t → (p : Present) → Follows p (s .live) (s .ledger) → Lent (s .ledger)
+serves-follows : {s t : State} {ls : List (List ℕ)} {rs : List Answer} → Serves s ls rs t → (p : Present) → Follows p (s .live) (s .ledger) → Lent (s .ledger)
     → (rs ≡ responses p ls) × Follows (presentAfter p ls) (t .live) (t .ledger) × Lent (t .ledger)
 serves-follows none p f e = (refl, f, e)
-serves-follows {s = s} (line {t = t} {l = l} h a r) p f e =
-    let c = performs-follows (s .live) (t .live) (s .ledger) (t .ledger) (a .answer) (meaning l) p f e (a .performs) in
-    let i = serves-follows r (respond (meaning l) p .next) (c .1) (lent-next l s t a e) in
+serves-follows {s = s} (line {t = t} {l = l} {a = a} q r) p f e =
+    let c = performs-follows (s .live) (t .live) (s .ledger) (t .ledger) a (meaning l) p f e (q .performs) in
+    let i = serves-follows r (respond (meaning l) p .next) (c .1) (lent-next l s a t q e) in
     (ap₂ _∷_ (c .0) (i .0), i .1, i .2)
-
--- ---- parts of an input
 
 responses-append : (p : Present) (ls ms : List (List ℕ)) → responses p (ls ++ ms) ≡ responses p ls ++ responses (presentAfter p ls) ms
 responses-append p [] ms = refl
 responses-append p (l ∷ ls) ms = ap (λ (rs : List Answer). respond (meaning l) p .answer ∷ rs) (responses-append (respond (meaning l) p .next) ls ms)
 
-answered-follows : {s t : State} {l : List ℕ} {ts : List (List ℕ)} {rs : List Answer} → Answered s l ts rs t → (p : Present) → Follows p (s .live) (s .ledger)
-    → Lent (s .ledger) → rs ≡ responses p (linesFrom l (joined ts))
+present-append : (p : Present) (ls ms : List (List ℕ)) → presentAfter p (ls ++ ms) ≡ presentAfter (presentAfter p ls) ms
+present-append p [] ms = refl
+present-append p (l ∷ ls) ms = present-append (respond (meaning l) p .next) ls ms
+
+-- ---- parts of an input
+
+pub joined-more : (ts : List (List ℕ)) (t : List ℕ) → joined (ts ++ (t ∷ [])) ≡ joined ts ++ t
+joined-more [] t = append-nil t
+joined-more (u ∷ ts) t = ap (λ (x : List ℕ). u ++ x) (joined-more ts t) ∙ sym (append-assoc u (joined ts) t)
+
+-- the texts of more answers behind those before
+outputs-more : (ls ms outs : List (List ℕ)) (out : List ℕ) (rs : List Answer) → joined outs ≡ texts (responses NoLedger ls) → out ≡ texts rs
+    → rs ≡ responses (presentAfter NoLedger ls) ms → joined (outs ++ (out ∷ [])) ≡ texts (responses NoLedger (ls ++ ms))
+outputs-more ls ms outs out rs p q r =
+    joined-more outs out ∙ ap₂ _++_ p (q ∙ ap texts r)
+    ∙ sym (ap texts (responses-append NoLedger ls ms) ∙ texts-append (responses NoLedger ls) (responses (presentAfter NoLedger ls) ms))
+
+-- after some parts: what is answered, and the program's state is the plain program's
+record Followed (parts outs : List (List ℕ)) (t : State) (l : List ℕ) : Type 0 where
+  answered : Answered parts outs l
+  follows : Follows (presentAfter NoLedger (answered .finished)) (t .live) (t .ledger)
+  lent : Lent (t .ledger)
+
+reading-follows : {s t : State} {parts outs : List (List ℕ)} {l : List ℕ} → Reading s parts outs t l → s .live ≡ false → Lent (s .ledger)
+    → Followed parts outs t l
+reading-follows program.none v e =
+    record { answered = record { finished = []; cut = λ more. refl; output = refl }; follows = v; lent = e }
+reading-follows (part {parts = parts} {outs = outs} {l = l} {text = text} {out = out} {rest = rest} r some p) v e =
+    let i = reading-follows r v e in
+    let ls = i .answered .finished in
+    let n = serves-follows (p .serves) (presentAfter NoLedger ls) (i .follows) (i .lent) in
+    record {
+      answered = record {
+        finished = ls ++ p .finished;
+        cut = λ more.
+            ap (λ (x : List ℕ). lines (x ++ more)) (joined-more parts text) ∙ ap lines (append-assoc (joined parts) text more)
+            ∙ i .answered .cut (text ++ more)
+            ∙ ap (λ (x : List (List ℕ)). ls ++ x) (p .cut more)
+            ∙ sym (append-assoc ls (p .finished) (linesFrom rest more));
+        output = outputs-more ls (p .finished) outs out (p .answers) (i .answered .output) (p .output) (n .0);
+      };
+      follows = rw (present-append NoLedger ls (p .finished)) (n .1);
+      lent = n .2;
+    }
+
+pub answers-at-once : AnswersAtOnce
+answers-at-once s t parts outs l v e r = reading-follows r v e .answered
+
+run-follows : {s t : State} {parts outs : List (List ℕ)} → Run s parts outs t → s .live ≡ false → Lent (s .ledger)
+    → joined outs ≡ outputFor (joined parts)
 unfolding linesFrom
-answered-follows (end e) p f n = serves-follows (e .serves) p f n .0
-answered-follows (part {ts = ts} q r) p f n =
-    let i = serves-follows (q .serves) p f n in
-    ap₂ _++_ (i .0) (answered-follows r (presentAfter p (q .finished)) (i .1) (i .2))
-    ∙ sym (responses-append p (q .finished) (linesFrom (q .rest) (joined ts)))
-    ∙ ap (responses p) (sym (q .cut (joined ts)))
+run-follows (end {parts = parts} {outs = outs} {l = l} {out = out} r q) v e =
+    let i = reading-follows r v e in
+    let ls = i .answered .finished in
+    let n = serves-follows (q .serves) (presentAfter NoLedger ls) (i .follows) (i .lent) in
+    outputs-more ls (unended l) outs out (q .answers) (i .answered .output) (q .output) (n .0)
+    ∙ ap (λ (x : List (List ℕ)). texts (responses NoLedger x)) (sym (i .answered .cut []) ∙ ap lines (append-nil (joined parts)))
 
 pub runs-as-plain : RunsAsPlain
-runs-as-plain s t parts rs l e r = let q = answered-follows r NoLedger l e in (q, ap texts q)
+runs-as-plain s t parts outs v e r = run-follows r v e
+
+-- ---- reads
+
+-- one read more: it gave a byte at least
+pub joined-longer : (n : ℕ) (parts : List (List ℕ)) (text : List ℕ) → n ≤ length (joined parts) → 0 < length text
+    → n + 1 ≤ length (joined (parts ++ (text ∷ [])))
+joined-longer n parts text h some = omega (arith, ap length (joined-more parts text), length-append (joined parts) text)
+
+-- n parts, each a byte at least, are read and answered; the line buffer has what is left of a line
+pub record ReadSoFar (s t : State) (n kept : ℕ) (buffer : List ℕ) : Type 0 where
+  pub parts : List (List ℕ)
+  pub outs : List (List ℕ)
+  pub rest : List ℕ
+  pub reading : Reading s parts outs t rest
+  pub long : n ≤ length (joined parts)
+  pub holds : input.Holds buffer kept rest
+
+pub read-none : (s : State) (kept : ℕ) (buffer : List ℕ) → kept ≡ 0 → ReadSoFar s s 0 kept buffer
+read-none s kept buffer z =
+    record { parts = []; outs = []; rest = []; reading = program.none; long = omega arith; holds = rw z (holds-none buffer) }
+
+module _ (s t u : State) (n kept : ℕ) (buffer text out : List ℕ) (kept′ : ℕ) (buffer′ : List ℕ) (f : ReadSoFar s t n kept buffer)
+    (a : (l : List ℕ) → input.Holds buffer kept l → ReadAnswered text l t u out kept′ buffer′) where
+  pub read-more : 0 < length text → ReadSoFar s u (n + 1) kept′ buffer′
+  read-more some =
+      let p = a (f .rest) (f .holds) .some some in
+      record {
+        parts = f .parts ++ (text ∷ []);
+        outs = f .outs ++ (out ∷ []);
+        rest = p .rest;
+        reading = part (f .reading) some (p .part);
+        long = joined-longer n (f .parts) text (f .long) some;
+        holds = p .holds;
+      }
+
+  pub read-end : length text ≡ 0 → Run s (f .parts) (f .outs ++ (out ∷ [])) u
+  read-end z = end (f .reading) (a (f .rest) (f .holds) .nothing z)
+
+-- ---- what `serve` has done, where v is the first session's `live`
+
+module _ (h : Ledger) (v : Bool) (st j : List ℕ) (z : v ≡ false) where
+  pub served-whole : (t : State) (parts outs : List (List ℕ)) → Run (record { live = v; ledger = memory h st j }) parts outs t → Served st j t
+  served-whole t parts outs r = ended (rw z at r)
+
+  pub served-part : (t : State) (n kept : ℕ) (buffer : List ℕ) → 2 ^ 64 - 1 ≤ n → ReadSoFar (record { live = v; ledger = memory h st j }) t n kept buffer
+      → Served st j t
+  served-part t n kept buffer m f = too-long (rw z at (f .reading)) (omega (arith, f .long))

@@ -1,4 +1,5 @@
--- What a command does to the program's ledger, and how lines are answered. Assumes nothing.
+-- What a command does to the program's ledger, how lines are answered, and the program as a whole. Assumes nothing.
 pub mod Performing
 pub mod Answering
 pub mod Program
+pub mod Inner

@@ -3,21 +3,22 @@
 use mathlib.Core.Path.{_≡_}
 use mathlib.Core.Bool.{Bool, true, false, _&&_, cond}
 use mathlib.Core.List.{List, [], _∷_, _++_}
-use Prim.Native.Nat.{ℕ, _≤_}
+use Prim.Native.Nat.{ℕ, _-_, _^_, _≤_, _<_}
 use lib.Dec.{leb}
 use lib.ListN.{length}
 use Rattle.positions.specs.Positions.{count, first}
 use Rattle.range_bitset.specs.Answers.{Reply, Number, Refusal, ofFound, allowedCapacity}
 use Rattle.ledger.specs.Machine.{Machine, fresh, setOf, Call, Range, Back, Wipe, step}
-use Rattle.ledger.specs.Memory.{Memory, Holds}
+use Rattle.ledger.specs.Memory.{Memory, memory, Holds}
+use Rattle.ledger.specs.declared.Ledger.{Ledger}
 use Rattle.command_lines.specs.declared.Command.{Command}
 use Rattle.command_lines.specs.declared.Command.the-variants as command
 use Rattle.command_lines.specs.declared.Answer.{Answer}
 use Rattle.command_lines.specs.declared.Answer.the-variants as answer
 use Rattle.command_lines.specs.Lines.{meaning}
-use Rattle.command_lines.specs.Input.{lines}
+use Rattle.command_lines.specs.Input.{lines, linesFrom}
 use Rattle.sheetmark.specs.Performing.{answerOf}
-use Rattle.sheetmark.specs.Answering.{State, texts, Parts, Ends}
+use Rattle.sheetmark.specs.Answering.{State, texts, Part, End}
 
 -- ---- the plain program
 
@@ -84,24 +85,44 @@ pub record Lent (x : Memory) : Type 0 where
   pub storage : 4290 ≤ length (x .storage)
   pub journal : 16384 ≤ length (x .journal)
 
--- written out, so that the output is filled from 0 again
-abbrev pub writtenOut : State → State
-writtenOut s = record { live = s .live; ledger = s .ledger; out = s .out; filled = 0 }
+-- parts of an input, each a byte at least, read and answered one after the other from s on: what stood in the output after
+-- each part, and the bytes of a line that are left
+pub data Reading : State → List (List ℕ) → List (List ℕ) → State → List ℕ → Type 0 where
+  none : {s : State} → Reading s [] [] s []
+  part : {s t u : State} {parts outs : List (List ℕ)} {l text out rest : List ℕ}
+      → Reading s parts outs t l → 0 < length text → Part text l t u out rest → Reading s (parts ++ (text ∷ [])) (outs ++ (out ∷ [])) u rest
 
--- the parts of an input answered one after the other, each with the bytes of a line that came before it, and then the
--- input's end; the output is written out after each part
-pub data Answered : State → List ℕ → List (List ℕ) → List Answer → State → Type 0 where
-  end : {s t : State} {l : List ℕ} → (e : Ends l s t) → Answered s l [] (e .answers) t
-  part : {s t u : State} {l text : List ℕ} {ts : List (List ℕ)} {rs : List Answer} {kept : ℕ} {buffer : List ℕ}
-      → (p : Parts text l s t kept buffer) → Answered (writtenOut t) (p .rest) ts rs u → Answered s l (text ∷ ts) (p .answers ++ rs) u
+-- a whole run: the parts of the input, then its end
+pub data Run : State → List (List ℕ) → List (List ℕ) → State → Type 0 where
+  end : {s t u : State} {parts outs : List (List ℕ)} {l out : List ℕ}
+      → Reading s parts outs t l → End l t u out → Run s parts (outs ++ (out ∷ [])) u
 
--- the whole input
+-- what the parts, or the outputs, are together
 abbrev pub joined : List (List ℕ) → List ℕ
 joined [] = []
 joined (t ∷ ts) = t ++ joined ts
 
--- for every input and however it comes in parts: the answers are the plain program's, and their text is what it prints
+-- for every input and however it comes in parts: the bytes that stand in the output after each part and after the end are
+-- together what the plain program prints
 abbrev pub RunsAsPlain : Type 0
 RunsAsPlain =
-    (s t : State) (parts : List (List ℕ)) (rs : List Answer) → s .live ≡ false → Lent (s .ledger) → Answered s [] parts rs t
-    → (rs ≡ responses NoLedger (lines (joined parts))) × (texts rs ≡ outputFor (joined parts))
+    (s t : State) (parts outs : List (List ℕ)) → s .live ≡ false → Lent (s .ledger) → Run s parts outs t
+    → joined outs ≡ outputFor (joined parts)
+
+-- and at once: after any number of parts they are the answers to the lines that have ended, whatever more is to come
+pub record Answered (parts outs : List (List ℕ)) (l : List ℕ) : Type 0 where
+  pub finished : List (List ℕ)
+  pub cut : (more : List ℕ) → lines (joined parts ++ more) ≡ finished ++ linesFrom l more
+  pub output : joined outs ≡ texts (responses NoLedger finished)
+
+abbrev pub AnswersAtOnce : Type 0
+AnswersAtOnce =
+    (s t : State) (parts outs : List (List ℕ)) (l : List ℕ) → s .live ≡ false → Lent (s .ledger) → Reading s parts outs t l
+    → Answered parts outs l
+
+-- what `serve` has done when it returns, from no ledger on: a whole run. Or it was given an input of 2^64 - 1 bytes or more
+pub data Served (storage journal : List ℕ) : State → Type 0 where
+  ended : {h : Ledger} {t : State} {parts outs : List (List ℕ)}
+      → Run (record { live = false; ledger = memory h storage journal }) parts outs t → Served storage journal t
+  too-long : {h : Ledger} {t : State} {parts outs : List (List ℕ)} {l : List ℕ}
+      → Reading (record { live = false; ledger = memory h storage journal }) parts outs t l → 2 ^ 64 - 1 ≤ length (joined parts) → Served storage journal t

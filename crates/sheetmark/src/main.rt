@@ -3,13 +3,17 @@
 // largest set's storage and the longest journal. Assumes that the kit's read and write do what they say.
 ghost use mathlib.Core.Path.{_≡_};
 ghost use mathlib.Core.Bool.{true, false};
-ghost use Prim.Native.Nat.{_≤_, _<_};
-ghost use lib.ListN.{length, take};
+ghost use mathlib.Core.List.{List};
+ghost use Prim.Native.Nat.{ℕ, _+_, _*_, _≤_, _<_};
+ghost use lib.ListN.{length, take, replicate};
 ghost use Rattle.range_bitset.specs.Answers.{ofCounted, ofPlace};
 ghost use Rattle.ledger.specs.Memory.{memory};
 ghost use Rattle.sheetmark.specs.Performing.{Leaves, answerOf, low32};
-ghost use Rattle.sheetmark.specs.Answering.{stateOf, AnswersLine, withRoom, PartAnswered, EndAnswered};
+ghost use Rattle.sheetmark.specs.Answering.{stateOf, PartAnswered, End, ReadAnswered};
+ghost use Rattle.sheetmark.specs.Program.{Served};
+ghost use Rattle.sheetmark.specs.Inner.{LineAnswered};
 ghost use Rattle.command_lines.specs.declared.Command.the-variants.{New};
+ghost use Rattle.command_lines.specs.Input.{Holds};
 use command_lines::Answer;
 use command_lines::Command;
 use ledger::Called;
@@ -160,14 +164,7 @@ fn perform(
     }
 }
 
-// Writes the filled part of the output out.
-fn flush(out: &[u8], filled: usize) {
-    if filled <= out.len() {
-        io::write_all(1, &out[..filled]);
-    }
-}
-
-// What goes from line to line: how far the line buffer and the output are filled, and the ledger.
+// What goes from part to part of the input: how far the line buffer and the output are filled, and the ledger.
 pub struct Session {
     pub kept: usize,
     pub filled: usize,
@@ -183,7 +180,8 @@ fn answer_line(
     storage: &mut [u64],
     journal: &mut [u32],
 ) -> Session
-    ensures { λ r. ⌜ AnswersLine (now (line .entry)) (stateOf session (out .entry) (storage .entry) (journal .entry)) (stateOf r (out .exit) (storage .exit) (journal .exit)) ⌝ }
+    requires { ⌜ session .filled + 12 ≤ length (now out) ⌝ }
+    ensures { λ r. ⌜ LineAnswered (now (line .entry)) (stateOf session (storage .entry) (journal .entry)) (stateOf r (storage .exit) (journal .exit)) (now (out .entry)) (session .filled) (now (out .exit)) (r .filled) ⌝ }
     ensures { λ r. ⌜ r .kept ≡ 0 ⌝ }
 {
     let command = command_lines::parse(line);
@@ -199,29 +197,8 @@ fn answer_line(
     }
 }
 
-// Answers the line that the buffer holds. Where the output has no room for an answer, it is written out before.
-fn answer_kept_line(
-    session: Session,
-    line: &[u8],
-    out: &mut [u8],
-    storage: &mut [u64],
-    journal: &mut [u32],
-) -> Session
-    requires { ⌜ session .kept ≤ length (now line) ⌝ }
-    ensures { λ r. ⌜ AnswersLine (take (session .kept) (now (line .entry))) (withRoom (stateOf session (out .entry) (storage .entry) (journal .entry))) (stateOf r (out .exit) (storage .exit) (journal .exit)) ⌝ }
-    ensures { λ r. ⌜ r .kept ≡ 0 ⌝ }
-{
-    let kept = session.kept;
-    let filled = session.filled;
-    let mut next = session;
-    if !command_lines::has_room(out, filled) {
-        flush(out, filled);
-        next.filled = 0;
-    }
-    answer_line(next, &line[..kept], out, storage, journal)
-}
-
-// Answers the lines that end in a part of the input.
+// Answers the lines that end in a part of the input. The output is filled anew. It has room for all answers: a line has a byte
+// at least, its newline, and an answer at most 12.
 fn answer_part(
     session: Session,
     text: &[u8],
@@ -232,18 +209,21 @@ fn answer_part(
 ) -> Session
     requires { ⌜ session .kept ≤ length (now line) ⌝ }
     requires { ⌜ 27 < length (now line) ⌝ }
-    requires { ⌜ 12 ≤ length (now out) ⌝ }
-    ensures { λ r. ⌜ PartAnswered (now (text .entry)) (now (line .entry)) (session .kept) (stateOf session (out .entry) (storage .entry) (journal .entry)) (stateOf r (out .exit) (storage .exit) (journal .exit)) (r .kept) (now (line .exit)) ⌝ }
+    requires { ⌜ 12 * length (now text) ≤ length (now out) ⌝ }
+    ensures { λ r. ⌜ ((l : List ℕ) → Holds (now (line .entry)) (session .kept) l → PartAnswered (now (text .entry)) l (stateOf session (storage .entry) (journal .entry)) (stateOf r (storage .exit) (journal .exit)) (take (r .filled) (now (out .exit))) (r .kept) (now (line .exit))) ⌝ }
     ensures { λ r. ⌜ r .kept ≤ length (now (line .exit)) ⌝ }
+    ensures { λ r. ⌜ r .filled ≤ length (now (out .exit)) ⌝ }
 {
     let mut at = 0;
     let mut current = session;
+    current.filled = 0;
     while at < text.len() {
         let found = command_lines::gather(text, at, line, current.kept);
         at = found.at;
-        current.kept = found.kept;
+        let kept = found.kept;
+        current.kept = kept;
         if found.ended {
-            current = answer_kept_line(current, line, out, storage, journal);
+            current = answer_line(current, &line[..kept], out, storage, journal);
         }
     }
     current
@@ -260,17 +240,45 @@ fn answer_last_line(
     requires { ⌜ session .kept ≤ length (now line) ⌝ }
     requires { ⌜ 27 < length (now line) ⌝ }
     requires { ⌜ 12 ≤ length (now out) ⌝ }
-    ensures { λ r. ⌜ EndAnswered (now (line .entry)) (session .kept) (stateOf session (out .entry) (storage .entry) (journal .entry)) (stateOf r (out .exit) (storage .exit) (journal .exit)) ⌝ }
+    ensures { λ r. ⌜ ((l : List ℕ) → Holds (now (line .entry)) (session .kept) l → End l (stateOf session (storage .entry) (journal .entry)) (stateOf r (storage .exit) (journal .exit)) (take (r .filled) (now (out .exit)))) ⌝ }
+    ensures { λ r. ⌜ r .kept ≤ length (now (line .exit)) ⌝ }
+    ensures { λ r. ⌜ r .filled ≤ length (now (out .exit)) ⌝ }
 {
     if session.kept == 0 {
-        return session;
+        let mut next = session;
+        next.filled = 0;
+        return next;
     }
     answer_part(session, b"\n", line, out, storage, journal)
 }
 
+// Answers what a read gave: a part of the input or, where it gave nothing, the input's end.
+fn answer_read(
+    session: Session,
+    text: &[u8],
+    line: &mut [u8],
+    out: &mut [u8],
+    storage: &mut [u64],
+    journal: &mut [u32],
+) -> Session
+    requires { ⌜ session .kept ≤ length (now line) ⌝ }
+    requires { ⌜ 27 < length (now line) ⌝ }
+    requires { ⌜ 12 ≤ length (now out) ⌝ }
+    requires { ⌜ 12 * length (now text) ≤ length (now out) ⌝ }
+    ensures { λ r. ⌜ ((l : List ℕ) → Holds (now (line .entry)) (session .kept) l → ReadAnswered (now (text .entry)) l (stateOf session (storage .entry) (journal .entry)) (stateOf r (storage .exit) (journal .exit)) (take (r .filled) (now (out .exit))) (r .kept) (now (line .exit))) ⌝ }
+    ensures { λ r. ⌜ r .kept ≤ length (now (line .exit)) ⌝ }
+    ensures { λ r. ⌜ r .filled ≤ length (now (out .exit)) ⌝ }
+{
+    if text.len() == 0 {
+        answer_last_line(session, line, out, storage, journal)
+    } else {
+        answer_part(session, text, line, out, storage, journal)
+    }
+}
+
 // Before the first line: no ledger, and nothing kept or put.
 fn begin() -> Session
-    ensures { λ r. ⌜ (r .live ≡ false) × (r .kept ≡ 0) × (r .filled ≡ 0) ⌝ }
+    ensures { λ r. ⌜ (r .live ≡ false) × (r .kept ≡ 0) ⌝ }
 {
     Session {
         kept: 0,
@@ -288,39 +296,47 @@ fn begin() -> Session
     }
 }
 
-// Reads and answers until the input ends. What is answered is written out before each read, so that it appears at once.
+// Reads, answers and writes the answers out, until a read gives nothing. That, and no count of reads, is the end: each read
+// that is counted gave a byte at least, and no input has 2^64 - 1.
 fn serve(
     input: &mut [u8],
     line: &mut [u8],
     out: &mut [u8],
     storage: &mut [u64],
     journal: &mut [u32],
-)
+) -> Session
     requires { ⌜ 27 < length (now line) ⌝ }
     requires { ⌜ 12 ≤ length (now out) ⌝ }
+    requires { ⌜ 12 * length (now input) ≤ length (now out) ⌝ }
     requires { ⌜ 4290 ≤ length (now storage) ⌝ }
     requires { ⌜ 16384 ≤ length (now journal) ⌝ }
+    ensures { λ r. ⌜ Served (now (storage .entry)) (now (journal .entry)) (stateOf r (storage .exit) (journal .exit)) ⌝ }
 {
     let mut session = begin();
-    let mut turns = u64::MAX;
-    while turns > 0 {
-        turns -= 1;
-        let got = libc::read(0, input);
-        let n = io::count(got, input);
+    let mut reads = 0u64;
+    while reads < u64::MAX {
+        let n = io::count(libc::read(0, input), input);
+        session = answer_read(session, &input[..n], line, out, storage, journal);
+        let filled = session.filled;
+        io::write_all(1, &out[..filled]);
         if n == 0 {
-            break;
+            return session;
         }
-        session = answer_part(session, &input[..n], line, out, storage, journal);
-        flush(out, session.filled);
-        session.filled = 0;
+        reads += 1;
     }
-    session = answer_last_line(session, line, out, storage, journal);
-    flush(out, session.filled);
+    session
+}
+
+// Room for the answers to any part of the input: 12 bytes for each of the input buffer's 65,536.
+fn output_buffer() -> [u8; 786432]
+    ensures { λ r. ⌜ r ≡ replicate 786432 0 ⌝ }
+{
+    [0; 786432]
 }
 
 fn main() {
     let mut input = io::large_buffer();
-    let mut out = io::large_buffer();
+    let mut out = output_buffer();
     let mut line = [0u8; 32];
     let mut storage = [0u64; 4290];
     let mut journal = [0u32; 16384];

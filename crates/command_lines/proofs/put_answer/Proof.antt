@@ -1,39 +1,43 @@
 -- `command_lines::put_answer` meets its contract: each arm puts the text of its answer. Assumes nothing.
-use mathlib.Core.Path.{_≡_, sym, _∙_}
-use mathlib.Core.Bool.{true}
-use Prim.Native.Nat.{_+_, _≤_}
+use mathlib.Core.Logic.{⊎-elim}
+use Prim.Native.Nat.{_+_, _-_, _≤_}
 use native.Mathlib.Omega.{arith}
-use lib.ListN.{length}
-use Rattle.command_lines.specs.Answers.{hasRoom}
+use lib.ListN.{length, length-append}
 use denote.Ref.{now}
-use borrow.Author.Tests.{leb-true, not-true, not-false}
+use Rattle.command_lines.specs.Answers.{digits}
+use borrow.Author.Tests.{ltb-true, ltb-false}
 use Rattle.command_lines.proofs.Decimals.{length-ten, length-three}
 use Rattle.command_lines.proofs.Filling.{put-none, put-all, put-refused}
 use borrow.Author.Needs.{needs}
 use Rattle.command_lines.proofs.put_answer.Statement.{statement}
 use Rattle.command_lines.proofs.put_answer.Tie as tie
 
-has-room-requires : tie.Need-has-room-requires
-has-room-requires c κs = search needs
+sub-if2 : tie.Need-sub-if2
+sub-if2 c = search needs
 
-same-length : tie.Need-same-length
-same-length c = search needs
-
--- past the test there is room
-has : (c : tie.Else1) → hasRoom (now (c .before .before .before .before .args .out)) (c .before .before .before .before .args .used) ≡ true
-has c = sym (c .before .has-room .ensures) ∙ not-false _ (c .if1 .left)
-
-room : (c : tie.Else1) → c .before .before .before .before .args .used + 12 ≤ length (now (c .before .before .before .before .args .out))
-room c = leb-true _ _ (has c)
+-- past both tests there is room
+room : (c : tie.Else2) → c .before .before .before .args .used + 12 ≤ length (now (c .before .before .before .args .out))
+room c = omega (arith, c .before .if1 .left, ltb-false (length (now (c .before .before .before .args .out)) - 12) (c .before .before .before .args .used) (c .if2 .left))
 
 returns : tie.Need-returns
-returns c = put-none _ _ (c .before .before .before .before .args .answer) (sym (c .before .has-room .ensures) ∙ not-true _ (c .if1 .taken))
+returns c =
+    let out = now (c .before .before .args .out) in
+    let used = c .before .before .args .used in
+    put-none out used (c .before .before .args .answer)
+    (⊎-elim (λ w. omega (arith, w .taken)) (λ w. omega (arith, w .0 .left, ltb-true (length out - 12) used (w .1 .taken))) (c .if1 .came))
 
 enum-known-answer : tie.Need-enum-known-answer
 enum-known-answer c = search needs
 
+-- a number of 32 bits has at most 10 digits, one of 8 bits at most 3
+ten : (c : tie.After-known-told) → length (digits (c .before .answer .given .0 .0)) ≤ 10
+ten c = length-ten (c .before .answer .given .0 .0) (c .known-told .given .0 .1)
+
+three : (c : tie.After-known-told2) → length (digits (c .before .answer2 .given .0 .0)) ≤ 3
+three c = length-three (c .before .answer2 .given .0 .0) (c .known-told2 .given .0 .1)
+
 put-number-line-requires : tie.Need-put-number-line-requires
-put-number-line-requires c κs = omega (arith, room (c .before .before .before .before), length-ten (c .before .before .answer .given .0 .0) (c .before .known-told .given .0 .1))
+put-number-line-requires c κs = omega (arith, room (c .before .before .before .before), ten (c .before))
 
 enum-told : tie.Need-enum-told
 enum-told c = search needs
@@ -57,7 +61,9 @@ cast-put-number-line : tie.Need-cast-put-number-line
 cast-put-number-line c = search needs
 
 put-number-line-requires-2 : tie.Need-put-number-line-requires-2
-put-number-line-requires-2 c κs = omega (arith, room (c .before .before .before .before .before .before .before .before .before), c .before .before .before .put2 .ensures .0, c .before .before .before .put2 .kept .0, length-three (c .before .before .before .before .before .before .before .answer2 .given .0 .0) (c .before .before .before .before .before .before .known-told2 .given .0 .1))
+put-number-line-requires-2 c κs =
+    let p = c .before .before .before .put2 in
+    omega (arith, room (c .before .before .before .before .before .before .before .before .before), p .ensures .0, p .kept .0, three (c .before .before .before .before .before .before))
 
 enum-told-2 : tie.Need-enum-told-2
 enum-told-2 c = search needs
@@ -68,47 +74,46 @@ slice-aggregate-put-3 c = search needs
 put-requires-3 : tie.Need-put-requires-3
 put-requires-3 c κs = omega (arith, room (c .before .before .before .before))
 
-same-length-2 : tie.Need-same-length-2
-same-length-2 c = search needs
+same-length : tie.Need-same-length
+same-length c = search needs
 
 returns-2 : tie.Need-returns-2
 returns-2 c =
     let e = c .before .before .put-number-line .ensures in
-    put-all _ _ _ _ _ _ (c .before .before .before .before .before .answer .given .1) (has (c .before .before .before .before .before .before .before)) (e .0) (e .1)
+    put-all _ _ _ _ _ _ (c .before .before .before .before .before .answer .given .1) (room (c .before .before .before .before .before .before .before)) (simp length-append (omega (arith, ten (c .before .before .before .before)))) (e .0) (e .1)
 
-same-length-3 : tie.Need-same-length-3
-same-length-3 c = search needs
+same-length-2 : tie.Need-same-length-2
+same-length-2 c = search needs
 
 returns-3 : tie.Need-returns-3
 returns-3 c =
     let e = c .before .before .put .ensures in
-    put-all (now (c .before .before .before .before .before .before .before .before .before .before .before .args .out)) _ _ _ _ _ (c .before .before .before .before .before .enum-told .given .1) (has (c .before .before .before .before .before .before .before)) (e .0) (e .1)
+    put-all (now (c .before .before .before .before .before .before .before .before .before .before .args .out)) _ _ _ _ _ (c .before .before .before .before .before .enum-told .given .1) (room (c .before .before .before .before .before .before .before)) (omega arith) (e .0) (e .1)
 
-same-length-4 : tie.Need-same-length-4
-same-length-4 c = search needs
+same-length-3 : tie.Need-same-length-3
+same-length-3 c = search needs
 
 returns-4 : tie.Need-returns-4
 returns-4 c =
     let p = c .before .before .before .before .before .before .put2 .ensures in
     let q = c .before .before .put-number-line2 .ensures in
-    let out = now (c .before .before .before .before .before .before .before .before .before .before .before .before .before .before .before .before .args .out) in
+    let out = now (c .before .before .before .before .before .before .before .before .before .before .before .before .before .before .before .args .out) in
     let e = put-refused out _ _ _ _ _ _ (p .0) (p .1) (q .0) (q .1) in
-    put-all out _ _ _ _ _ (c .before .before .before .before .before .before .before .before .before .before .answer2 .given .1) (has (c .before .before .before .before .before .before .before .before .before .before .before .before)) (e .0) (e .1)
+    put-all out _ _ _ _ _ (c .before .before .before .before .before .before .before .before .before .before .answer2 .given .1) (room (c .before .before .before .before .before .before .before .before .before .before .before .before)) (simp length-append (omega (arith, three (c .before .before .before .before .before .before .before .before .before)))) (e .0) (e .1)
 
-same-length-5 : tie.Need-same-length-5
-same-length-5 c = search needs
+same-length-4 : tie.Need-same-length-4
+same-length-4 c = search needs
 
 returns-5 : tie.Need-returns-5
 returns-5 c =
     let e = c .before .before .put3 .ensures in
-    put-all (now (c .before .before .before .before .before .before .before .before .before .before .before .args .out)) _ _ _ _ _ (c .before .before .before .before .before .enum-told2 .given .1) (has (c .before .before .before .before .before .before .before)) (e .0) (e .1)
+    put-all (now (c .before .before .before .before .before .before .before .before .before .before .args .out)) _ _ _ _ _ (c .before .before .before .before .before .enum-told2 .given .1) (room (c .before .before .before .before .before .before .before)) (omega arith) (e .0) (e .1)
 
 pub put-answer-spec : {M : Type 1} → statement M
 put-answer-spec =
     tie.close
     (tie.spec
-    has-room-requires
-    same-length
+    sub-if2
     returns
     enum-known-answer
     put-number-line-requires
@@ -123,11 +128,11 @@ put-answer-spec =
     enum-told-2
     slice-aggregate-put-3
     put-requires-3
-    same-length-2
+    same-length
     returns-2
-    same-length-3
+    same-length-2
     returns-3
-    same-length-4
+    same-length-3
     returns-4
-    same-length-5
+    same-length-4
     returns-5)

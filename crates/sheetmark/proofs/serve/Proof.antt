@@ -1,30 +1,30 @@
--- `serve` meets its contract. The measure: the turns left. Assumes nothing.
-use mathlib.Core.Path.{_≡_, refl, ap, _∙_}
-use mathlib.Core.Logic.{⊎-elim}
-use denote.Ref.{now}
+-- `serve` meets its contract. The invariant: the parts read so far are answered, and `reads` counts them. The measure: the reads
+-- that are left. Assumes nothing.
+use mathlib.Core.Path.{_≡_, refl, sym, _∙_}
+use Prim.Native.Nat.{_-_, _^_, _≤_}
+use native.Mathlib.Omega.{arith}
 use borrow.Author.Needs.{needs}
 use lib.ListN.{length}
-use Prim.Native.Nat.{_≤_}
-use native.Mathlib.Omega.{arith}
+use lib.Seq.{length-take-le}
+use Rattle.sheetmark.specs.Answering.{state}
+use Rattle.sheetmark.proofs.Program.{ReadSoFar, read-none, read-more, read-end, served-whole, served-part}
 use Rattle.sheetmark.proofs.serve.Statement.{statement}
 use Rattle.sheetmark.proofs.serve.Tie as tie
 
 abbrev Inv-loop : tie.InvT-loop
-Inv-loop input₀ line₀ out₀ storage₀ journal₀ session₀ turns₀ input line out storage journal session turns =
+Inv-loop input₀ line₀ out₀ storage₀ journal₀ session₀ reads₀ input line out storage journal session reads =
     (length input ≡ length input₀) × (length line ≡ length line₀) × (length out ≡ length out₀) × (length storage ≡ length storage₀) × (length journal ≡ length journal₀)
     × (session .kept ≤ length line)
+    × ReadSoFar (state session₀ storage₀ journal₀) (state session storage journal) reads (session .kept) line
 
 abbrev μ-loop : tie.MeasureT-loop
-μ-loop input₀ line₀ out₀ storage₀ journal₀ session₀ turns₀ input line out storage journal session turns = turns
+μ-loop input₀ line₀ out₀ storage₀ journal₀ session₀ reads₀ input line out storage journal session reads = 2 ^ 64 - reads
 
 begin-requires : tie.Need-begin-requires Inv-loop μ-loop
 begin-requires c κs = search needs
 
 loop-holds : tie.Need-loop-holds Inv-loop μ-loop
-loop-holds c = (refl, refl, refl, refl, refl, omega (arith, c .begin .ensures .1))
-
-sub-turns : tie.Need-sub-turns Inv-loop μ-loop
-sub-turns c = search needs
+loop-holds c = (refl, refl, refl, refl, refl, omega (arith, c .begin .ensures .1), read-none _ _ _ (c .begin .ensures .1))
 
 read-requires : tie.Need-read-requires Inv-loop μ-loop
 read-requires c κs = search needs
@@ -32,38 +32,32 @@ read-requires c κs = search needs
 count-requires : tie.Need-count-requires Inv-loop μ-loop
 count-requires c κs = search needs
 
-slice-reshare-prefix-answer-part : tie.Need-slice-reshare-prefix-answer-part Inv-loop μ-loop
-slice-reshare-prefix-answer-part c = search needs
+slice-reshare-prefix-answer-read : tie.Need-slice-reshare-prefix-answer-read Inv-loop μ-loop
+slice-reshare-prefix-answer-read c = search needs
 
-slice-aggregate-answer-part : tie.Need-slice-aggregate-answer-part Inv-loop μ-loop
-slice-aggregate-answer-part c = search needs
+slice-aggregate-answer-read : tie.Need-slice-aggregate-answer-read Inv-loop μ-loop
+slice-aggregate-answer-read c = search needs
 
-answer-part-requires : tie.Need-answer-part-requires Inv-loop μ-loop
-answer-part-requires c κs = search needs
+answer-read-requires : tie.Need-answer-read-requires Inv-loop μ-loop
+answer-read-requires c κs =
+    let i = c .before .before .before .before .before .before .before .before .before .before .before .before .loop .inv in
+    let pre = c .before .before .before .before .before .before .before .before .before .before .before .before .before .before .before .before .before .before .before .pre in
+    let n = c .before .before .before .before .before .count .ensures in (
+      i .5,
+      (omega (arith, i .1, pre .0), (omega (arith, i .2, pre .1 .0), omega (arith, i .0, i .2, pre .1 .1 .0, n .0 .0, n .0 .1, c .before .before .before .before .before .before .before .before .before .read .kept .1 .0))),
+    )
 
-flush-requires : tie.Need-flush-requires Inv-loop μ-loop
-flush-requires c κs = search needs
+slice-reshare-prefix-write-all : tie.Need-slice-reshare-prefix-write-all Inv-loop μ-loop
+slice-reshare-prefix-write-all c = search needs
 
-loop-less : tie.Need-loop-less Inv-loop μ-loop
-loop-less c = search needs
+slice-aggregate-write-all : tie.Need-slice-aggregate-write-all Inv-loop μ-loop
+slice-aggregate-write-all c = sym (length-take-le _ _ (slice-reshare-prefix-write-all (c .before)))
 
-loop-again : tie.Need-loop-again Inv-loop μ-loop
-loop-again c = search needs
-
-answer-last-line-requires : tie.Need-answer-last-line-requires Inv-loop μ-loop
-answer-last-line-requires c κs = search needs
-
-flush-requires-2 : tie.Need-flush-requires-2 Inv-loop μ-loop
-flush-requires-2 c κs = search needs
-
--- after the loop the input buffer is as long as before
-left : (c : tie.Left-loop Inv-loop μ-loop) → length (c .loop-test .input) ≡ length (now (c .before .before .before .before .before .before .before .before .args .input))
-left c =
-    ⊎-elim (λ w. ap length (w .1) ∙ c .before .loop .inv .0) (λ w. ap length (w .8) ∙ w .2 .kept .1 .0 ∙ c .before .loop .inv .0)
-    (c .loop-test .came)
+write-all-requires : tie.Need-write-all-requires Inv-loop μ-loop
+write-all-requires c κs = search needs
 
 same-length : tie.Need-same-length Inv-loop μ-loop
-same-length c = left (c .before .before .before .before .before .before .before .before .before .before .before .before .before .before .before)
+same-length c = search needs
 
 same-length-2 : tie.Need-same-length-2 Inv-loop μ-loop
 same-length-2 c = search needs
@@ -78,7 +72,47 @@ same-length-5 : tie.Need-same-length-5 Inv-loop μ-loop
 same-length-5 c = search needs
 
 returns : tie.Need-returns Inv-loop μ-loop
-returns c = search needs
+returns c =
+    served-whole _ _ _ _ (c .before .before .before .before .before .before .before .before .before .before .before .before .before .before .before .before .before .before .before .before .before .before .before .before .before .begin .ensures .0) _ _ _
+    (read-end _ _ _ _ _ _ _ _ _ _ (c .before .before .before .before .before .before .before .before .before .before .before .before .before .before .before .before .before .before .before .before .before .before .before .before .loop .inv .6) (c .before .before .before .before .before .before .before .before .before .before .before .answer-read .ensures .0)
+    (sym (c .before .before .before .before .before .before .before .before .before .before .before .before .before .before .before .before .before .count .ensures .0 .1) ∙ c .if1 .taken))
+
+add-reads : tie.Need-add-reads Inv-loop μ-loop
+add-reads c = search needs
+
+loop-less : tie.Need-loop-less Inv-loop μ-loop
+loop-less c = omega (arith, c .before .before .before .before .before .before .before .before .before .before .before .before .before .before .before .before .before .before .before .before .before .before .before .loop-test .taken)
+
+loop-again : tie.Need-loop-again Inv-loop μ-loop
+loop-again c =
+    let i = c .before .before .before .before .before .before .before .before .before .before .before .before .before .before .before .before .before .before .before .before .before .before .before .before .loop .inv in
+    let o = c .before .before .before .before .before .before .before .before .before .before .before .answer-read in (
+      c .before .before .before .before .before .before .before .before .before .before .before .before .before .before .before .before .before .before .before .before .before .read .kept .1 .0 ∙ i .0,
+      o .kept .1 .1 .0 ∙ i .1,
+      o .kept .1 .1 .1 .0 ∙ i .2,
+      o .kept .1 .1 .1 .1 .0 ∙ i .3,
+      o .kept .1 .1 .1 .1 .1 .0 ∙ i .4,
+      o .ensures .1 .0,
+      read-more _ _ _ _ _ _ _ _ _ _ (i .6) (o .ensures .0) (omega (arith, c .before .before .before .before .before .before .before .before .before .before .before .before .before .before .before .before .before .count .ensures .0 .1, c .if1 .left)),
+    )
+
+same-length-6 : tie.Need-same-length-6 Inv-loop μ-loop
+same-length-6 c = search needs
+
+same-length-7 : tie.Need-same-length-7 Inv-loop μ-loop
+same-length-7 c = search needs
+
+same-length-8 : tie.Need-same-length-8 Inv-loop μ-loop
+same-length-8 c = search needs
+
+same-length-9 : tie.Need-same-length-9 Inv-loop μ-loop
+same-length-9 c = search needs
+
+same-length-10 : tie.Need-same-length-10 Inv-loop μ-loop
+same-length-10 c = search needs
+
+returns-2 : tie.Need-returns-2 Inv-loop μ-loop
+returns-2 c = served-part _ _ _ _ (c .before .before .begin .ensures .0) _ _ _ _ (omega (arith, c .loop-test .left)) (c .before .loop .inv .6)
 
 pub serve-spec : {M : Type 1} → statement M
 serve-spec =
@@ -88,20 +122,26 @@ serve-spec =
     μ-loop
     begin-requires
     loop-holds
-    sub-turns
     read-requires
     count-requires
-    slice-reshare-prefix-answer-part
-    slice-aggregate-answer-part
-    answer-part-requires
-    flush-requires
-    loop-less
-    loop-again
-    answer-last-line-requires
-    flush-requires-2
+    slice-reshare-prefix-answer-read
+    slice-aggregate-answer-read
+    answer-read-requires
+    slice-reshare-prefix-write-all
+    slice-aggregate-write-all
+    write-all-requires
     same-length
     same-length-2
     same-length-3
     same-length-4
     same-length-5
-    returns)
+    returns
+    add-reads
+    loop-less
+    loop-again
+    same-length-6
+    same-length-7
+    same-length-8
+    same-length-9
+    same-length-10
+    returns-2)
