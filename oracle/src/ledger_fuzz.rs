@@ -3,9 +3,10 @@
 //! On memory that is not sound, as fuzz does for the set: heads are random, nearly good or good; storage and journal hold
 //! random numbers, or a ledger that calls have made with some numbers spoilt; files are random or damaged; every slice is
 //! short, exact or long and lies against a page that may not be touched. It checks that each call returns without a fault,
-//! that it is refused exactly as the header says (but for 6 while U is below J), that a refused call writes nothing and gives
-//! its head back, and that an accepted call writes none but the needed storage numbers and the journal numbers from the old
-//! U to the new. New and open are held to all that they promise, on any memory.
+//! that it is refused exactly as the header says (but for 6 where the call may need more than J - U numbers), that a refused call
+//! writes nothing and gives its head back, that an accepted call keeps W and J, leaves U within J, and writes none but the
+//! needed storage numbers and the journal numbers from the old U to the new. New and open are held to all that they promise,
+//! on any memory.
 //!
 //! On sound ledgers: lists of calls from new or from open, on slices that hold random numbers at first. Every answer, head and
 //! journal up to U is held to the plain machine of ledger_model.rs, and so are the set's queries and the audit, now and
@@ -222,9 +223,15 @@ fn perform(case: Case, memory: &mut Memory) -> LedgerAnswer {
     if answer.head.set.allocated > 1 {
         wrong(case, "the head's flag is neither 0 nor 1");
     }
+    if (answer.head.set.words, answer.head.journal) != (head.set.words, head.journal) {
+        wrong(case, &format!("W or J changed: {:?}", answer.head));
+    }
     let accepted = answer.refused == 0;
+    if accepted && answer.head.used > answer.head.journal {
+        wrong(case, &format!("U is above J: {:?}", answer.head));
+    }
     memory.storage.hold(0..if accepted { needed(head.set.words as usize) } else { 0 }, case);
-    let (old, new) = (head.used as usize, (answer.head.used as usize).min(journal_len));
+    let (old, new) = (head.used as usize, answer.head.used as usize);
     let writes = accepted && case.kind.assigns() && old < new;
     memory.journal.hold(if writes { old..new } else { 0..0 }, case);
     answer
@@ -254,9 +261,10 @@ fn refusal(case: &Case) -> u32 {
 fn loose_call(case: Case, memory: &mut Memory) -> Ledger {
     let answer = perform(case, memory);
     let wanted = refusal(&case);
-    // what a marking or clearing of at least one position needs is free here: there is no set to count its runs by
-    let empty = matches!(case.kind, Mark | Clear) && case.start >= case.end;
-    let free = wanted == 0 && answer.refused == 6 && case.kind.assigns() && !empty;
+    // there is no set to count runs by, but n positions have at most (n + 1) / 2: 6 is free only where so many may not fit
+    let positions = if matches!(case.kind, Mark | Clear) { case.end.saturating_sub(case.start) } else { 1 };
+    let fits = wanted == 0 && 1 + 2 * positions.div_ceil(2) <= (case.head.journal - case.head.used) as usize;
+    let free = wanted == 0 && answer.refused == 6 && case.kind.assigns() && !fits;
     if answer.refused != wanted && !free {
         wrong(case, &format!("refused {} and not {wanted}", answer.refused));
     }
