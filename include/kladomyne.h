@@ -28,8 +28,10 @@
  * stays in the numbers that were lent. What the calls promise below of their answer is promised where head and storage
  * are a pair that these calls left behind: the head is the one that the last call gave, and the storage has not
  * been written since, nor, for a ledger, the journal's first U numbers. On any other memory an accepted call's answer, its head
- * and the numbers that it may write may be anything, and all that is said of refusals and of the other numbers still holds
- * (but for 6 where head and storage are not sound and U is below J: there is no set to count runs by). What klado_set_audit, klado_ledger_new and klado_ledger_open promise is promised on any memory.
+ * and the numbers that it may write may be anything, but that a ledger's W and J stay and its U is at most J; and all that is said
+ * of refusals and of the other numbers still holds (but for 6 where head and storage are not sound: there is no set to count
+ * runs by. It is then refused where U is J, and never where n positions' most runs, (n + 1) / 2, fit). What klado_set_audit,
+ * klado_ledger_new and klado_ledger_open promise is promised on any memory.
  *
  * Refusals. Every answer opens with `refused`: 0, or the number of the first of these rules that is broken, in this order:
  *   1  new and open alone: the capacity is not 64 * W for a W that is a power of two from 1 to 4096, or J is above 16,384.
@@ -117,7 +119,8 @@ klado_answer klado_set_get(klado_set head, const uint64_t *storage, size_t stora
 klado_set_answer klado_set_set(klado_set head, uint64_t *storage, size_t storage_len, size_t index, bool value);
 
 /* Puts every position of start..end into the set (value true) or takes them out (false), and answers how many
- * positions that changed. The work does not grow with the capacity. Refused: 2, 3, 4. */
+ * positions that changed. The work is bounded by the set's blocks, 64 at the most, of 64 words each: it looks into the words of the
+ * two at the ends alone, and adds up a number for each that is covered whole. Refused: 2, 3, 4. */
 klado_set_answer klado_set_assign(klado_set head, uint64_t *storage, size_t storage_len, size_t start, size_t end,
                                   bool value);
 
@@ -177,7 +180,7 @@ klado_opened klado_ledger_open(const uint8_t *file, size_t file_len, size_t limi
 
 /* Puts every position of start..end into the set, and answers how many positions that changed. The call stands until it is
  * taken back, also where it changes nothing, and uses 1 + 2 * (runs that it changes) journal numbers. The work
- * grows with those runs, and not with the capacity. Refused: 2, 3, 4, 6. */
+ * grows with those runs; beside them it is klado_set_assign's. Refused: 2, 3, 4, 6. */
 klado_ledger_answer klado_ledger_mark(klado_ledger head, uint64_t *storage, size_t storage_len, uint32_t *journal,
                                       size_t journal_len, size_t start, size_t end);
 

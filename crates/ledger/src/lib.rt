@@ -1,6 +1,6 @@
 // The ledger: a set with an undo journal. A marking or clearing records the runs that it changes before it changes them, and
 // take-back gives just those runs their old value again. The head goes in and comes back by value; storage and journal are
-// lent with each call. Work is bounded by the ends of the range and the runs changed, never by the capacity.
+// lent with each call. Work is bounded by the ends of the range, the blocks and the runs changed, never by the words of the capacity.
 // Assumes nothing of its callers: no entry has a `requires`.
 ghost use mathlib.Core.Path.{_≡_};
 ghost use mathlib.Core.Bool.{true, false};
