@@ -29,9 +29,9 @@
  * are a pair that these calls left behind: the head is the one that the last call gave, and the storage has not
  * been written since, nor, for a ledger, the journal's first U numbers. On any other memory an accepted call's answer, its head
  * and the numbers that it may write may be anything, but that a ledger's W and J stay and its U is at most J; and all that is said
- * of refusals and of the other numbers still holds (but for 6 where head and storage are not sound: there is no set to count
- * runs by. It is then refused where U is J, and never where n positions' most runs, (n + 1) / 2, fit). What klado_set_audit,
- * klado_ledger_new and klado_ledger_open promise is promised on any memory.
+ * of refusals and of the other numbers still holds. (But for 6, where head and storage are not sound: there is no set to count
+ * runs by. It is answered where U is J; never where as many runs fit as the range's n positions can have, (n + 1) / 2; between
+ * these it may be.) What klado_set_audit, klado_ledger_new and klado_ledger_open promise is promised on any memory.
  *
  * Refusals. Every answer opens with `refused`: 0, or the number of the first of these rules that is broken, in this order:
  *   1  new and open alone: the capacity is not 64 * W for a W that is a power of two from 1 to 4096, or J is above 16,384.

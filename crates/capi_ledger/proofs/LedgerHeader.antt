@@ -1,17 +1,22 @@
 -- What include/kladomyne.h says of every answer of a ledger's call, on any memory, from the exports' promises: the refusal's
--- number, the bad run's index, what a refused answer has beside it, and that a refused call changes nothing.
+-- number, the bad run's index, what a refused answer has beside it, that a refused call changes nothing, and what of the head
+-- holds in any case.
 -- Assumes nothing.
-use mathlib.Core.Path.{_≡_, refl, ap, _∙_}
+use mathlib.Core.Path.{_≡_, refl, sym, ap, _∙_}
 use mathlib.Core.Logic.{_≢_, _⊎_, inl, inr}
+use mathlib.Core.Bool.{Bool, true, false}
 use mathlib.Core.List.{List, [], _∷_}
-use Prim.Native.Nat.{ℕ}
+use Prim.Native.Nat.{ℕ, _-_, _≤_}
+use native.Mathlib.Omega.{arith}
+use borrow.Author.Tests.{eqb-true, eqb-false}
+use lib.Dec.{eqb}
 use lib.ListN.{length}
 use Rattle.range_bitset.specs.Answers.{Reply, refused, Accepted}
 use Rattle.range_bitset.proofs.Heads.{accepted-refused}
 use Rattle.range_bitset.specs.Answers as reply
 use Rattle.ledger.specs.Machine.{Call, Wipe}
 use Rattle.ledger.specs.Memory.{Memory, memory, callRefusal}
-use Rattle.ledger.specs.Entries.{CalledEnsures, refusalOf, openRefusal}
+use Rattle.ledger.specs.Entries.{CallEnsures, CalledEnsures, ranges, mostNeed, refusalOf, openRefusal}
 use Rattle.ledger.specs.declared.Called.{Called}
 use Rattle.ledger.specs.declared.Opened.{Opened}
 use Rattle.ledger.specs.declared.Opened.the-variants as opened
@@ -71,39 +76,62 @@ open-declines file j st journal c st′ t =
       storage = λ z. t .promised .unchanged (λ e. z (told-number ∙ ap number e));
     }
 
--- ---- marking, clearing, take-back and wipe: the refusal k that the table has on any memory, and what a refused call leaves
+-- ---- marking, clearing, take-back and wipe: the refusal k that the table has on any memory, what a refused call leaves, and
+-- what of the head holds in any case
 
-pub record Declines (k : ℕ) (h : KladoLedger) (st j : List ℕ) (c : KladoLedgerAnswer) (st′ j′ : List ℕ) : Type 0 where
+pub record Declines (k most : ℕ) (h : KladoLedger) (st j : List ℕ) (c : KladoLedgerAnswer) (st′ j′ : List ℕ) : Type 0 where
   pub refusal : k ≢ 0 → c .refused ≡ k
   pub only-6 : k ≡ 0 → (c .refused ≡ 0) ⊎ (c .refused ≡ 6)
+  pub short-6 : k ≡ 0 → most ≤ h .journal - h .used → c .refused ≡ 0
   pub value : c .refused ≢ 0 → c .value ≡ 0
   pub head : c .refused ≢ 0 → c .head ≡ h
   pub storage : c .refused ≢ 0 → st′ ≡ st
   pub journal : c .refused ≢ 0 → j′ ≡ j
+  pub words : c .head .set .words ≡ h .set .words
+  pub limit : c .head .journal ≡ h .journal
+  pub used-most : c .refused ≡ 0 → c .head .used ≤ h .journal
 
 six : (n : ℕ) → (r : Reply) → (Q : Type 0) → n ≡ refused r → Accepted r ⊎ ((r ≡ reply.Refusal 6) × Q) → (n ≡ 0) ⊎ (n ≡ 6)
 six n r Q e (inl z) = inl (e ∙ accepted-refused r z)
 six n r Q e (inr s) = inr (e ∙ ap refused (s .0))
 
+-- no number beside 0 is an acceptance: a refusal is 6 or the table's
+accepts : (k : Call) (x : Memory) (r : Reply) (y : Memory) → CallEnsures k x r y → refused r ≡ 0 → Accepted r
+accepts k x r y p z = by (eqb (callRefusal k x) 0) refl
+  where
+    of-six : Accepted r ⊎ ((r ≡ reply.Refusal 6) × (ranges k ≡ true)) → Accepted r
+    of-six (inl a) = a
+    of-six (inr s) = absurd (let w : _≡_ {A = ℕ} 6 0 = sym (ap refused (s .0)) ∙ z in omega arith)
+
+    by : (b : Bool) → eqb (callRefusal k x) 0 ≡ b → Accepted r
+    by true e = of-six (p .only-6 (eqb-true (callRefusal k x) 0 e))
+    by false e = absurd (eqb-false (callRefusal k x) 0 e (sym (ap refused (p .refuses (eqb-false (callRefusal k x) 0 e))) ∙ z))
+
 declines : (k : Call) → (h : KladoLedger) → (st j st′ j′ : List ℕ) → (r : Called) → CalledEnsures k (ledgerOf h) st j st′ j′ r
-    → (c : KladoLedgerAnswer) → c ≡ ofCalled r → Declines (callRefusal k (memory (ledgerOf h) st j)) h st j c st′ j′
+    → (c : KladoLedgerAnswer) → c ≡ ofCalled r → Declines (callRefusal k (memory (ledgerOf h) st j)) (mostNeed k) h st j c st′ j′
 declines k h st j st′ j′ r p c t =
     let same : c .refused ≡ refused (reply.ofCounted (r .answer)) = ap (λ (x : KladoLedgerAnswer). x .refused) t ∙ counted-refused (r .answer) in
     let kept : c .refused ≢ 0 → memory (r .head) st′ j′ ≡ memory (ledgerOf h) st j = λ z. p .unchanged (λ e. z (same ∙ accepted-refused (reply.ofCounted (r .answer)) e)) in
     record {
       refusal = λ z. same ∙ ap refused (p .refuses z);
       only-6 = λ z. six _ _ _ same (p .only-6 z);
+      short-6 = λ z m. same ∙ accepted-refused (reply.ofCounted (r .answer)) (p .short-6 z m);
       value = λ z. ap (λ (x : KladoLedgerAnswer). x .value) t
           ∙ counted-bare (r .answer) (λ e. z (ap (λ (x : KladoLedgerAnswer). x .refused) t ∙ e));
       head = λ z. ap (λ (x : KladoLedgerAnswer). x .head) t ∙ ap (λ (x : Memory). ledgerHead (x .head)) (kept z);
       storage = λ z. ap (λ (x : Memory). x .storage) (kept z);
       journal = λ z. ap (λ (x : Memory). x .journal) (kept z);
+      words = ap (λ (x : KladoLedgerAnswer). x .head .set .words) t ∙ p .same-words;
+      limit = ap (λ (x : KladoLedgerAnswer). x .head .journal) t ∙ p .same-limit;
+      used-most = λ z.
+          omega
+          (arith, ap (λ (x : KladoLedgerAnswer). x .head .used) t, p .same-limit, p .used-most (accepts k _ _ _ p (sym same ∙ z)));
     }
 
 pub call-declines : (k : Call) → (h : KladoLedger) → (st j : List ℕ) → (c : KladoLedgerAnswer) → (st′ j′ : List ℕ)
-    → CallTold k h st j c st′ j′ → Declines (callRefusal k (memory (ledgerOf h) st j)) h st j c st′ j′
+    → CallTold k h st j c st′ j′ → Declines (callRefusal k (memory (ledgerOf h) st j)) (mostNeed k) h st j c st′ j′
 call-declines k h st j c st′ j′ t = declines k h st j st′ j′ (t .answer) (t .promised) c (t .told)
 
 pub wipe-declines : (h : KladoLedger) → (st : List ℕ) → (c : KladoLedgerAnswer) → (st′ : List ℕ) → WipeTold h st c st′
-    → (j : List ℕ) → Declines (callRefusal Wipe (memory (ledgerOf h) st j)) h st j c st′ j
+    → (j : List ℕ) → Declines (callRefusal Wipe (memory (ledgerOf h) st j)) 0 h st j c st′ j
 wipe-declines h st c st′ t j = declines Wipe h st j st′ j (t .answer) (t .promised j) c (t .told)
