@@ -73,7 +73,7 @@ module _ (h : Ledger) (st j : List ℕ) (a e : ℕ) (v : Bool) where
   -- more numbers are needed than the journal has left
   full : (r : Counted) (h′ : Ledger) → r ≡ counted.Refused 6 → h′ ≡ h → lentRefusal h (length st) (length j) ≡ 0 → e ≤ capacityOf (h .set)
       → ((callRefusal (Range a e v) before ≡ 0 → ⊥) → callRefusal (Range a e v) before ≡ 6)
-      → ((s : Positions) → Represents (h .set) st s → h .journal - h .used < needOf s a e v) → (callRefusal (Range a e v) before ≡ 0 → mostNeed (Range a e v) ≤ h .journal - h .used → ⊥)
+      → ((s : Positions) → Represents (h .set) st s → h .journal - h .used < needOf s a e v) → (mostNeed (Range a e v) ≤ h .journal - h .used → ⊥)
       → CallEnsures (Range a e v) before (ofCounted r) (memory h′ st j)
   full r h′ p q l n six more some =
       declined-as (Range a e v) h st j 6 r h′ p q
@@ -81,7 +81,7 @@ module _ (h : Ledger) (st j : List ℕ) (a e : ℕ) (v : Bool) where
         refuses = λ z. ap Refusal (sym (six z));
         only-6 = λ z. inr (refl, refl);
         exactly-6 = λ z s x. sym (ap (λ (b : Bool). cond b 0 6) (lt-leb (needOf s a e v) (h .journal - h .used) (more s x)));
-        short-6 = λ z o. absurd (some z o);
+        short-6 = λ z o. absurd (some o);
         unchanged = λ z. refl;
         same-words = refl;
         same-limit = refl;
@@ -101,7 +101,7 @@ module _ (h : Ledger) (st j : List ℕ) (a e : ℕ) (v : Bool) where
       → h .used ≡ h .journal → CallEnsures (Range a e v) before (ofCounted r) (memory h′ st j)
   unfolding needOf
   none-left r h′ p q l n o =
-      full r h′ p q l n (λ z. call-none-left l n o) (λ s x. omega arith) (λ z w. omega arith)
+      full r h′ p q l n (λ z. call-none-left l n o) (λ s x. omega arith) (λ w. omega arith)
 
   -- more runs than fit
   pub too-many : (most : ℕ) (fit : Bool) (r : Counted) (h′ : Ledger) → r ≡ counted.Refused 6 → h′ ≡ h → lentRefusal h (length st) (length j) ≡ 0
@@ -111,7 +111,7 @@ module _ (h : Ledger) (st j : List ℕ) (a e : ℕ) (v : Bool) where
   too-many most fit r h′ p q l n some o c d =
       full r h′ p q l n (λ z. absurd (z (call-passes l n some)))
       (λ s x. omega (arith, leb-false (length (changedRuns s a e v)) most (sym (c .fits (accepted l n) s x) ∙ d)))
-      (λ z w. true≢false (sym (c .short (omega arith)) ∙ d))
+      (λ w. true≢false (sym (c .short (omega arith)) ∙ d))
 
   -- ---- done: the runs are recorded, then the range is given its value
 
