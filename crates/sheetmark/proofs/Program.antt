@@ -150,7 +150,7 @@ present-append p (l ∷ ls) ms = present-append (respond (meaning l) p .next) ls
 
 -- ---- parts of an input
 
-pub joined-more : (ts : List (List ℕ)) (t : List ℕ) → joined (ts ++ (t ∷ [])) ≡ joined ts ++ t
+joined-more : (ts : List (List ℕ)) (t : List ℕ) → joined (ts ++ (t ∷ [])) ≡ joined ts ++ t
 joined-more [] t = append-nil t
 joined-more (u ∷ ts) t = ap (λ (x : List ℕ). u ++ x) (joined-more ts t) ∙ sym (append-assoc u (joined ts) t)
 
@@ -208,7 +208,7 @@ runs-as-plain s t parts outs v e r = run-follows r v e
 -- ---- reads
 
 -- one read more: it gave a byte at least
-pub joined-longer : (n : ℕ) (parts : List (List ℕ)) (text : List ℕ) → n ≤ length (joined parts) → 0 < length text
+joined-longer : (n : ℕ) (parts : List (List ℕ)) (text : List ℕ) → n ≤ length (joined parts) → 0 < length text
     → n + 1 ≤ length (joined (parts ++ (text ∷ [])))
 joined-longer n parts text h some = omega (arith, ap length (joined-more parts text), length-append (joined parts) text)
 
