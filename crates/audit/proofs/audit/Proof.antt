@@ -6,23 +6,11 @@ use borrow.Author.Needs.{needs}
 use Rattle.audit.proofs.audit.Statement.{statement}
 use Rattle.audit.proofs.audit.Tie as tie
 
-refusal-requires : tie.Need-refusal-requires
-refusal-requires c κs = search needs
-
 returns : tie.Need-returns
 returns c = audit-declined _ _ _ (c .before .refusal .ensures) (c .if1 .taken)
 
 returns-2 : tie.Need-returns-2
 returns-2 c = audit-fresh _ _ (sym (c .before .before .before .refusal .ensures) ∙ c .before .before .if1 .left) (not-true _ (c .before .if2 .taken))
-
-storage-audit-requires : tie.Need-storage-audit-requires
-storage-audit-requires c κs = search needs
-
-enum-known-population : tie.Need-enum-known-population
-enum-known-population c = search needs
-
-enum-told : tie.Need-enum-told
-enum-told c = search needs
 
 returns-3 : tie.Need-returns-3
 returns-3 c =
@@ -38,11 +26,11 @@ pub audit-spec : {M : Type 1} → statement M
 audit-spec =
     tie.close
     (tie.spec
-    refusal-requires
+    (λ c κs. search needs)
     returns
     returns-2
-    storage-audit-requires
-    enum-known-population
-    enum-told
+    (λ c κs. search needs)
+    (λ c. search needs)
+    (λ c. search needs)
     returns-3
     returns-4)

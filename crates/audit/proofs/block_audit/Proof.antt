@@ -7,28 +7,10 @@ use borrow.Author.Needs.{needs}
 use Rattle.audit.proofs.block_audit.Statement.{statement}
 use Rattle.audit.proofs.block_audit.Tie as tie
 
-mul-block-of : tie.Need-mul-block-of
-mul-block-of c = search needs
-
-block-of-requires : tie.Need-block-of-requires
-block-of-requires c κs = search needs
-
-enum-told : tie.Need-enum-told
-enum-told c = search needs
-
-enum-known-size : tie.Need-enum-known-size
-enum-known-size c = search needs
-
-enum-known-mixed : tie.Need-enum-known-mixed
-enum-known-mixed c = search needs
-
 mixed-block-sound-requires : tie.Need-mixed-block-sound-requires
 mixed-block-sound-requires c κs =
     let most = accepted (c .before .before .before .before .before .args .head) (c .before .before .before .before .before .args .storage .now) (c .before .before .before .before .before .pre .0) .most in
     (omega (arith, c .before .before .before .before .before .pre .1, most), block-words (c .before .before .before .before .before .args .head) (c .before .before .before .before .before .args .storage .now) (c .before .before .before .before .before .args .block) (c .before .before .before .before .before .pre .0) (c .before .before .before .before .before .pre .1) _ (c .before .before .before .block-of .ensures) _ (c .before .mixed .given .1))
-
-enum-told-2 : tie.Need-enum-told-2
-enum-told-2 c = search needs
 
 returns : tie.Need-returns
 returns c = empty-told (c .before .before .before .before .args .head) (c .before .before .before .before .args .storage .now) (c .before .before .before .before .args .block) (c .before .before .before .before .pre .0) (c .before .before .before .before .pre .1) _ (c .before .before .block-of .ensures) (c .enum-told .given .1)
@@ -53,13 +35,13 @@ pub block-audit-spec : {M : Type 1} → statement M
 block-audit-spec =
     tie.close
     (tie.spec
-    mul-block-of
-    block-of-requires
-    enum-told
-    enum-known-size
-    enum-known-mixed
+    (λ c. search needs)
+    (λ c κs. search needs)
+    (λ c. search needs)
+    (λ c. search needs)
+    (λ c. search needs)
     mixed-block-sound-requires
-    enum-told-2
+    (λ c. search needs)
     returns
     returns-2
     returns-3

@@ -5,9 +5,6 @@ use borrow.Author.Needs.{needs}
 use Rattle.audit.proofs.mixed_block_sound.Statement.{statement}
 use Rattle.audit.proofs.mixed_block_sound.Tie as tie
 
-masks-sound-requires : tie.Need-masks-sound-requires
-masks-sound-requires c κs = search needs
-
 returns : tie.Need-returns
 returns c = told-not (λ z. c .before .masks-sound .ensures .no (not-true _ (c .if1 .taken)) (z .masks))
 
@@ -27,9 +24,6 @@ stored-words-sound-requires c κs =
 returns-4 : tie.Need-returns-4
 returns-4 c = told-not (λ z. c .before .stored-words-sound .ensures .no (not-true _ (c .if4 .taken)) (z .words))
 
-cast-result : tie.Need-cast-result
-cast-result c = search needs
-
 returns-5 : tie.Need-returns-5
 returns-5 c =
     mixed-told _ _ _ (c .before .before .before .before .before .before .before .before .masks-sound .ensures) (not-false _ (c .before .before .before .before .before .before .before .if1 .left)) (c .before .before .before .before .before .before .if2 .left) (c .before .before .before .before .if3 .left)
@@ -39,11 +33,11 @@ pub mixed-block-sound-spec : {M : Type 1} → statement M
 mixed-block-sound-spec =
     tie.close
     (tie.spec
-    masks-sound-requires
+    (λ c κs. search needs)
     returns
     returns-2
     returns-3
     stored-words-sound-requires
     returns-4
-    cast-result
+    (λ c. search needs)
     returns-5)

@@ -7,23 +7,8 @@ use borrow.Author.Needs.{needs}
 use Rattle.audit.proofs.storage_audit.Statement.{statement}
 use Rattle.audit.proofs.storage_audit.Tie as tie
 
-top-masks-requires : tie.Need-top-masks-requires
-top-masks-requires c κs = search needs
-
-enum-known-tops : tie.Need-enum-known-tops
-enum-known-tops c = search needs
-
-masks-sound-requires : tie.Need-masks-sound-requires
-masks-sound-requires c κs = search needs
-
 returns : tie.Need-returns
 returns c = unsound (tops-stop (c .before .before .before .before .before .before .before .args .head) (c .before .before .before .before .before .before .before .args .storage .now) (c .before .before .before .before .before .before .before .pre) _ (c .before .before .before .before .before .top-masks .ensures) _ (c .before .before .before .tops .given .1) (c .before .masks-sound .ensures) (not-true _ (c .if1 .taken)))
-
-blocks-audit-requires : tie.Need-blocks-audit-requires
-blocks-audit-requires c κs = search needs
-
-enum-told : tie.Need-enum-told
-enum-told c = search needs
 
 returns-2 : tie.Need-returns-2
 returns-2 c =
@@ -37,11 +22,11 @@ pub storage-audit-spec : {M : Type 1} → statement M
 storage-audit-spec =
     tie.close
     (tie.spec
-    top-masks-requires
-    enum-known-tops
-    masks-sound-requires
+    (λ c κs. search needs)
+    (λ c. search needs)
+    (λ c κs. search needs)
     returns
-    blocks-audit-requires
-    enum-told
+    (λ c κs. search needs)
+    (λ c. search needs)
     returns-2
     returns-3)

@@ -8,15 +8,6 @@ use borrow.Author.Needs.{needs}
 use Rattle.capi.proofs.klado_set_audit.Statement.{statement}
 use Rattle.capi.proofs.klado_set_audit.Tie as tie
 
-set-of-requires : tie.Need-set-of-requires
-set-of-requires c κs = search needs
-
-audit-requires : tie.Need-audit-requires
-audit-requires c κs = search needs
-
-of-tested-requires : tie.Need-of-tested-requires
-of-tested-requires c κs = search needs
-
 returns : tie.Need-returns
 returns c =
     let a = c .before .before .before .before .args in
@@ -24,4 +15,4 @@ returns c =
 
 pub klado-set-audit-spec : {M : Type 1} → statement M
 klado-set-audit-spec =
-    tie.close (tie.spec set-of-requires audit-requires of-tested-requires returns)
+    tie.close (tie.spec (λ c κs. search needs) (λ c κs. search needs) (λ c κs. search needs) returns)

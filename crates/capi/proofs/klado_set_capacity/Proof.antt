@@ -8,19 +8,10 @@ use borrow.Author.Needs.{needs}
 use Rattle.capi.proofs.klado_set_capacity.Statement.{statement}
 use Rattle.capi.proofs.klado_set_capacity.Tie as tie
 
-set-of-requires : tie.Need-set-of-requires
-set-of-requires c κs = search needs
-
-capacity-requires : tie.Need-capacity-requires
-capacity-requires c κs = search needs
-
-of-counted-requires : tie.Need-of-counted-requires
-of-counted-requires c κs = search needs
-
 returns : tie.Need-returns
 returns c =
     telling Counted KladoAnswer CapacityEnsures ofCounted _ _ (c .before .before .set-of .ensures) (c .before .capacity .result) (c .before .capacity .ensures) _ (c .of-counted .ensures)
 
 pub klado-set-capacity-spec : {M : Type 1} → statement M
 klado-set-capacity-spec =
-    tie.close (tie.spec set-of-requires capacity-requires of-counted-requires returns)
+    tie.close (tie.spec (λ c κs. search needs) (λ c κs. search needs) (λ c κs. search needs) returns)

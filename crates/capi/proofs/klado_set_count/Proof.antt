@@ -8,15 +8,6 @@ use borrow.Author.Needs.{needs}
 use Rattle.capi.proofs.klado_set_count.Statement.{statement}
 use Rattle.capi.proofs.klado_set_count.Tie as tie
 
-set-of-requires : tie.Need-set-of-requires
-set-of-requires c κs = search needs
-
-count-requires : tie.Need-count-requires
-count-requires c κs = search needs
-
-of-counted-requires : tie.Need-of-counted-requires
-of-counted-requires c κs = search needs
-
 returns : tie.Need-returns
 returns c =
     let a = c .before .before .before .before .args in
@@ -24,4 +15,4 @@ returns c =
 
 pub klado-set-count-spec : {M : Type 1} → statement M
 klado-set-count-spec =
-    tie.close (tie.spec set-of-requires count-requires of-counted-requires returns)
+    tie.close (tie.spec (λ c κs. search needs) (λ c κs. search needs) (λ c κs. search needs) returns)

@@ -8,19 +8,10 @@ use borrow.Author.Needs.{needs}
 use Rattle.capi.proofs.klado_set_get.Statement.{statement}
 use Rattle.capi.proofs.klado_set_get.Tie as tie
 
-set-of-requires : tie.Need-set-of-requires
-set-of-requires c κs = search needs
-
-get-requires : tie.Need-get-requires
-get-requires c κs = search needs
-
-of-tested-requires : tie.Need-of-tested-requires
-of-tested-requires c κs = search needs
-
 returns : tie.Need-returns
 returns c =
     let a = c .before .before .before .before .args in
     telling Tested KladoAnswer (λ g. GetEnsures g (a .storage .now) (a .index)) ofTested _ _ (c .before .before .set-of .ensures) (c .before .get .result) (c .before .get .ensures) _ (c .of-tested .ensures)
 
 pub klado-set-get-spec : {M : Type 1} → statement M
-klado-set-get-spec = tie.close (tie.spec set-of-requires get-requires of-tested-requires returns)
+klado-set-get-spec = tie.close (tie.spec (λ c κs. search needs) (λ c κs. search needs) (λ c κs. search needs) returns)

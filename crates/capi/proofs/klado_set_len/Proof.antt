@@ -8,18 +8,9 @@ use borrow.Author.Needs.{needs}
 use Rattle.capi.proofs.klado_set_len.Statement.{statement}
 use Rattle.capi.proofs.klado_set_len.Tie as tie
 
-set-of-requires : tie.Need-set-of-requires
-set-of-requires c κs = search needs
-
-len-requires : tie.Need-len-requires
-len-requires c κs = search needs
-
-of-counted-requires : tie.Need-of-counted-requires
-of-counted-requires c κs = search needs
-
 returns : tie.Need-returns
 returns c =
     telling Counted KladoAnswer LenEnsures ofCounted _ _ (c .before .before .set-of .ensures) (c .before .len .result) (c .before .len .ensures) _ (c .of-counted .ensures)
 
 pub klado-set-len-spec : {M : Type 1} → statement M
-klado-set-len-spec = tie.close (tie.spec set-of-requires len-requires of-counted-requires returns)
+klado-set-len-spec = tie.close (tie.spec (λ c κs. search needs) (λ c κs. search needs) (λ c κs. search needs) returns)

@@ -5,14 +5,8 @@ use borrow.Author.Needs.{needs}
 use Rattle.capi.proofs.klado_set_new.Statement.{statement}
 use Rattle.capi.proofs.klado_set_new.Tie as tie
 
-new-requires : tie.Need-new-requires
-new-requires c κs = search needs
-
-of-made-requires : tie.Need-of-made-requires
-of-made-requires c κs = search needs
-
 returns : tie.Need-returns
 returns c = c .of-made .ensures ∙ ap ofMade (c .before .new .ensures)
 
 pub klado-set-new-spec : {M : Type 1} → statement M
-klado-set-new-spec = tie.close (tie.spec new-requires of-made-requires returns)
+klado-set-new-spec = tie.close (tie.spec (λ c κs. search needs) (λ c κs. search needs) returns)

@@ -9,15 +9,6 @@ use borrow.Author.Needs.{needs}
 use Rattle.capi.proofs.klado_set_next_zero.Statement.{statement}
 use Rattle.capi.proofs.klado_set_next_zero.Tie as tie
 
-set-of-requires : tie.Need-set-of-requires
-set-of-requires c κs = search needs
-
-next-zero-requires : tie.Need-next-zero-requires
-next-zero-requires c κs = search needs
-
-of-found-requires : tie.Need-of-found-requires
-of-found-requires c κs = search needs
-
 returns : tie.Need-returns
 returns c =
     let a = c .before .before .before .before .args in
@@ -25,4 +16,4 @@ returns c =
 
 pub klado-set-next-zero-spec : {M : Type 1} → statement M
 klado-set-next-zero-spec =
-    tie.close (tie.spec set-of-requires next-zero-requires of-found-requires returns)
+    tie.close (tie.spec (λ c κs. search needs) (λ c κs. search needs) (λ c κs. search needs) returns)

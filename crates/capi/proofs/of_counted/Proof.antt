@@ -5,15 +5,6 @@ use borrow.Author.Needs.{needs}
 use Rattle.capi.proofs.of_counted.Statement.{statement}
 use Rattle.capi.proofs.of_counted.Tie as tie
 
-enum-known-answer : tie.Need-enum-known-answer
-enum-known-answer c = search needs
-
-enum-known-answer-2 : tie.Need-enum-known-answer-2
-enum-known-answer-2 c = search needs
-
-cast-t5 : tie.Need-cast-t5
-cast-t5 c = search needs
-
 returns : tie.Need-returns
 returns c = sym (ap ofCounted (c .before .answer .given .1))
 
@@ -22,4 +13,4 @@ returns-2 c = sym (ap ofCounted (c .before .answer2 .given .1))
 
 pub of-counted-spec : {M : Type 1} → statement M
 of-counted-spec =
-    tie.close (tie.spec enum-known-answer enum-known-answer-2 cast-t5 returns returns-2)
+    tie.close (tie.spec (λ c. search needs) (λ c. search needs) (λ c. search needs) returns returns-2)

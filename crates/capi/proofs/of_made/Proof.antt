@@ -7,18 +7,6 @@ use borrow.Author.Needs.{needs}
 use Rattle.capi.proofs.of_made.Statement.{statement}
 use Rattle.capi.proofs.of_made.Tie as tie
 
-enum-known-answer : tie.Need-enum-known-answer
-enum-known-answer c = search needs
-
-head-of-requires : tie.Need-head-of-requires
-head-of-requires c κs = search needs
-
-enum-known-answer-2 : tie.Need-enum-known-answer-2
-enum-known-answer-2 c = search needs
-
-cast-t6 : tie.Need-cast-t6
-cast-t6 c = search needs
-
 returns : tie.Need-returns
 returns c =
     let w : KladoSet → KladoSetAnswer = λ x. record { refused = 0; value = 0; head = x } in
@@ -30,4 +18,4 @@ returns-2 c = sym (ap ofMade (c .before .answer2 .given .1))
 pub of-made-spec : {M : Type 1} → statement M
 of-made-spec =
     tie.close
-    (tie.spec enum-known-answer head-of-requires enum-known-answer-2 cast-t6 returns returns-2)
+    (tie.spec (λ c. search needs) (λ c κs. search needs) (λ c. search needs) (λ c. search needs) returns returns-2)

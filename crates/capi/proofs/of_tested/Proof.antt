@@ -6,15 +6,6 @@ use borrow.Author.Needs.{needs}
 use Rattle.capi.proofs.of_tested.Statement.{statement}
 use Rattle.capi.proofs.of_tested.Tie as tie
 
-enum-known-answer : tie.Need-enum-known-answer
-enum-known-answer c = search needs
-
-enum-known-answer-2 : tie.Need-enum-known-answer-2
-enum-known-answer-2 c = search needs
-
-cast-t9 : tie.Need-cast-t9
-cast-t9 c = search needs
-
 returns : tie.Need-returns
 returns c = sym (ap ofTested (c .before .before .answer .given .1 ∙ ap tested.Is (c .if1 .taken)))
 
@@ -26,4 +17,4 @@ returns-3 c = sym (ap ofTested (c .before .answer2 .given .1))
 
 pub of-tested-spec : {M : Type 1} → statement M
 of-tested-spec =
-    tie.close (tie.spec enum-known-answer enum-known-answer-2 cast-t9 returns returns-2 returns-3)
+    tie.close (tie.spec (λ c. search needs) (λ c. search needs) (λ c. search needs) returns returns-2 returns-3)

@@ -4,21 +4,6 @@ use borrow.Author.Needs.{needs}
 use Rattle.capi_ledger.proofs.klado_ledger_clear_point.Statement.{statement}
 use Rattle.capi_ledger.proofs.klado_ledger_clear_point.Tie as tie
 
-ledger-of-requires : tie.Need-ledger-of-requires
-ledger-of-requires c κs = search needs
-
-clear-point-requires : tie.Need-clear-point-requires
-clear-point-requires c κs = search needs
-
-of-called-requires : tie.Need-of-called-requires
-of-called-requires c κs = search needs
-
-same-length : tie.Need-same-length
-same-length c = search needs
-
-same-length-2 : tie.Need-same-length-2
-same-length-2 c = search needs
-
 returns : tie.Need-returns
 returns c =
     tell-call _ _ _ (c .before .before .before .before .before .before .before .before .ledger-of .ensures) _ _ _ _ (c .before .before .before .before .before .clear-point .result) (c .before .before .before .before .before .clear-point .ensures) _ (c .of-called .ensures)
@@ -27,9 +12,9 @@ pub klado-ledger-clear-point-spec : {M : Type 1} → statement M
 klado-ledger-clear-point-spec =
     tie.close
     (tie.spec
-    ledger-of-requires
-    clear-point-requires
-    of-called-requires
-    same-length
-    same-length-2
+    (λ c κs. search needs)
+    (λ c κs. search needs)
+    (λ c κs. search needs)
+    (λ c. search needs)
+    (λ c. search needs)
     returns)

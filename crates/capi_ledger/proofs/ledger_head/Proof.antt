@@ -6,9 +6,6 @@ use borrow.Author.Needs.{needs}
 use Rattle.capi_ledger.proofs.ledger_head.Statement.{statement}
 use Rattle.capi_ledger.proofs.ledger_head.Tie as tie
 
-head-of-requires : tie.Need-head-of-requires
-head-of-requires c κs = search needs
-
 returns : tie.Need-returns
 returns c =
     let a = c .before .args .ledger in
@@ -16,4 +13,4 @@ returns c =
     ap w (c .head-of .ensures)
 
 pub ledger-head-spec : {M : Type 1} → statement M
-ledger-head-spec = tie.close (tie.spec head-of-requires returns)
+ledger-head-spec = tie.close (tie.spec (λ c κs. search needs) returns)

@@ -6,9 +6,6 @@ use borrow.Author.Needs.{needs}
 use Rattle.capi_ledger.proofs.ledger_of.Statement.{statement}
 use Rattle.capi_ledger.proofs.ledger_of.Tie as tie
 
-set-of-requires : tie.Need-set-of-requires
-set-of-requires c κs = search needs
-
 returns : tie.Need-returns
 returns c =
     let a = c .before .args .head in
@@ -16,4 +13,4 @@ returns c =
     ap w (c .set-of .ensures)
 
 pub ledger-of-spec : {M : Type 1} → statement M
-ledger-of-spec = tie.close (tie.spec set-of-requires returns)
+ledger-of-spec = tie.close (tie.spec (λ c κs. search needs) returns)

@@ -4,14 +4,8 @@ use borrow.Author.Needs.{needs}
 use Rattle.capi_ledger.proofs.of_called.Statement.{statement}
 use Rattle.capi_ledger.proofs.of_called.Tie as tie
 
-of-counted-requires : tie.Need-of-counted-requires
-of-counted-requires c κs = search needs
-
-ledger-head-requires : tie.Need-ledger-head-requires
-ledger-head-requires c κs = search needs
-
 returns : tie.Need-returns
 returns c = tell-called (c .before .before .before .args .called) _ (c .before .of-counted .ensures) _ (c .ledger-head .ensures)
 
 pub of-called-spec : {M : Type 1} → statement M
-of-called-spec = tie.close (tie.spec of-counted-requires ledger-head-requires returns)
+of-called-spec = tie.close (tie.spec (λ c κs. search needs) (λ c κs. search needs) returns)

@@ -7,27 +7,6 @@ use borrow.Author.Needs.{needs}
 use Rattle.capi_ledger.proofs.of_opened.Statement.{statement}
 use Rattle.capi_ledger.proofs.of_opened.Tie as tie
 
-enum-known-answer : tie.Need-enum-known-answer
-enum-known-answer c = search needs
-
-ledger-head-requires : tie.Need-ledger-head-requires
-ledger-head-requires c κs = search needs
-
-enum-known-answer-2 : tie.Need-enum-known-answer-2
-enum-known-answer-2 c = search needs
-
-cast-unopened : tie.Need-cast-unopened
-cast-unopened c = search needs
-
-unopened-requires : tie.Need-unopened-requires
-unopened-requires c κs = search needs
-
-enum-known-answer-3 : tie.Need-enum-known-answer-3
-enum-known-answer-3 c = search needs
-
-unopened-requires-2 : tie.Need-unopened-requires-2
-unopened-requires-2 c κs = search needs
-
 returns : tie.Need-returns
 returns c =
     let w : KladoLedger → KladoOpened = λ x. record { refused = 0; run = 0; head = x } in
@@ -43,13 +22,13 @@ pub of-opened-spec : {M : Type 1} → statement M
 of-opened-spec =
     tie.close
     (tie.spec
-    enum-known-answer
-    ledger-head-requires
-    enum-known-answer-2
-    cast-unopened
-    unopened-requires
-    enum-known-answer-3
-    unopened-requires-2
+    (λ c. search needs)
+    (λ c κs. search needs)
+    (λ c. search needs)
+    (λ c. search needs)
+    (λ c κs. search needs)
+    (λ c. search needs)
+    (λ c κs. search needs)
     returns
     returns-2
     returns-3)

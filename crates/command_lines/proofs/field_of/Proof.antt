@@ -15,12 +15,9 @@ returns-2 : tie.Need-returns-2
 unfolding finish
 returns-2 c = simp (ne-eqb _ _ (c .before .if1 .left), le-ltb (c .before .before .args .value) (2 ^ 32) (omega arith))
 
-cast-t5 : tie.Need-cast-t5
-cast-t5 c = search needs
-
 returns-3 : tie.Need-returns-3
 unfolding finish
 returns-3 c = simp (ne-eqb _ _ (c .before .if1 .left), lt-ltb (c .before .before .args .value) (2 ^ 32) (omega arith))
 
 pub field-of-spec : {M : Type 1} → statement M
-field-of-spec = tie.close (tie.spec returns returns-2 cast-t5 returns-3)
+field-of-spec = tie.close (tie.spec returns returns-2 (λ c. search needs) returns-3)

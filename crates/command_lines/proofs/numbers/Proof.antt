@@ -5,32 +5,11 @@ use borrow.Author.Needs.{needs}
 use Rattle.command_lines.proofs.numbers.Statement.{statement}
 use Rattle.command_lines.proofs.numbers.Tie as tie
 
-number-requires : tie.Need-number-requires
-number-requires c κs = search needs
-
-enum-known-first : tie.Need-enum-known-first
-enum-known-first c = search needs
-
-enum-told : tie.Need-enum-told
-enum-told c = search needs
-
 returns : tie.Need-returns
 returns c = sym (no-first _ _ (sym (c .before .before .number .ensures) ∙ c .enum-told .given .1))
 
 returns-2 : tie.Need-returns-2
 returns-2 c = sym (no-second-field _ _ _ _ (sym (c .before .before .before .before .number .ensures) ∙ c .before .before .first .given .1) (c .if1 .taken))
-
-add-number : tie.Need-add-number
-add-number c = search needs
-
-number-requires-2 : tie.Need-number-requires-2
-number-requires-2 c κs = search needs
-
-enum-known-second : tie.Need-enum-known-second
-enum-known-second c = search needs
-
-enum-told-2 : tie.Need-enum-told-2
-enum-told-2 c = search needs
 
 returns-3 : tie.Need-returns-3
 returns-3 c = sym (no-second _ _ _ _ (sym (c .before .before .before .before .before .before .before .number .ensures) ∙ c .before .before .before .before .before .first .given .1) (c .before .before .before .if1 .left) (sym (c .before .before .number2 .ensures) ∙ c .enum-told2 .given .1))
@@ -45,15 +24,15 @@ pub numbers-spec : {M : Type 1} → statement M
 numbers-spec =
     tie.close
     (tie.spec
-    number-requires
-    enum-known-first
-    enum-told
+    (λ c κs. search needs)
+    (λ c. search needs)
+    (λ c. search needs)
     returns
     returns-2
-    add-number
-    number-requires-2
-    enum-known-second
-    enum-told-2
+    (λ c. search needs)
+    (λ c κs. search needs)
+    (λ c. search needs)
+    (λ c. search needs)
     returns-3
     returns-4
     returns-5)

@@ -12,9 +12,6 @@ use borrow.Author.Needs.{needs}
 use Rattle.command_lines.proofs.put_answer.Statement.{statement}
 use Rattle.command_lines.proofs.put_answer.Tie as tie
 
-sub-if2 : tie.Need-sub-if2
-sub-if2 c = search needs
-
 -- past both tests there is room
 room : (c : tie.Else2) → c .before .before .before .args .used + 12 ≤ length (now (c .before .before .before .args .out))
 room c = omega (arith, c .before .if1 .left, ltb-false (length (now (c .before .before .before .args .out)) - 12) (c .before .before .before .args .used) (c .if2 .left))
@@ -26,9 +23,6 @@ returns c =
     put-none out used (c .before .before .args .answer)
     (⊎-elim (λ w. omega (arith, w .taken)) (λ w. omega (arith, w .0 .left, ltb-true (length out - 12) used (w .1 .taken))) (c .if1 .came))
 
-enum-known-answer : tie.Need-enum-known-answer
-enum-known-answer c = search needs
-
 -- a number of 32 bits has at most 10 digits, one of 8 bits at most 3
 ten : (c : tie.After-known-told) → length (digits (c .before .answer .given .0 .0)) ≤ 10
 ten c = length-ten (c .before .answer .given .0 .0) (c .known-told .given .0 .1)
@@ -39,59 +33,29 @@ three c = length-three (c .before .answer2 .given .0 .0) (c .known-told2 .given 
 put-number-line-requires : tie.Need-put-number-line-requires
 put-number-line-requires c κs = omega (arith, room (c .before .before .before .before), ten (c .before))
 
-enum-told : tie.Need-enum-told
-enum-told c = search needs
-
-slice-aggregate-put : tie.Need-slice-aggregate-put
-slice-aggregate-put c = search needs
-
 put-requires : tie.Need-put-requires
 put-requires c κs = omega (arith, room (c .before .before .before .before))
 
-enum-known-answer-2 : tie.Need-enum-known-answer-2
-enum-known-answer-2 c = search needs
-
-slice-aggregate-put-2 : tie.Need-slice-aggregate-put-2
-slice-aggregate-put-2 c = search needs
-
 put-requires-2 : tie.Need-put-requires-2
 put-requires-2 c κs = omega (arith, room (c .before .before .before .before .before))
-
-cast-put-number-line : tie.Need-cast-put-number-line
-cast-put-number-line c = search needs
 
 put-number-line-requires-2 : tie.Need-put-number-line-requires-2
 put-number-line-requires-2 c κs =
     let p = c .before .before .before .put2 in
     omega (arith, room (c .before .before .before .before .before .before .before .before .before), p .ensures .0, p .kept .0, three (c .before .before .before .before .before .before))
 
-enum-told-2 : tie.Need-enum-told-2
-enum-told-2 c = search needs
-
-slice-aggregate-put-3 : tie.Need-slice-aggregate-put-3
-slice-aggregate-put-3 c = search needs
-
 put-requires-3 : tie.Need-put-requires-3
 put-requires-3 c κs = omega (arith, room (c .before .before .before .before))
-
-same-length : tie.Need-same-length
-same-length c = search needs
 
 returns-2 : tie.Need-returns-2
 returns-2 c =
     let e = c .before .before .put-number-line .ensures in
     put-all _ _ _ _ _ _ (c .before .before .before .before .before .answer .given .1) (room (c .before .before .before .before .before .before .before)) (simp length-append (omega (arith, ten (c .before .before .before .before)))) (e .0) (e .1)
 
-same-length-2 : tie.Need-same-length-2
-same-length-2 c = search needs
-
 returns-3 : tie.Need-returns-3
 returns-3 c =
     let e = c .before .before .put .ensures in
     put-all (now (c .before .before .before .before .before .before .before .before .before .before .args .out)) _ _ _ _ _ (c .before .before .before .before .before .enum-told .given .1) (room (c .before .before .before .before .before .before .before)) (omega arith) (e .0) (e .1)
-
-same-length-3 : tie.Need-same-length-3
-same-length-3 c = search needs
 
 returns-4 : tie.Need-returns-4
 returns-4 c =
@@ -100,9 +64,6 @@ returns-4 c =
     let out = now (c .before .before .before .before .before .before .before .before .before .before .before .before .before .before .before .args .out) in
     let e = put-refused out _ _ _ _ _ _ (p .0) (p .1) (q .0) (q .1) in
     put-all out _ _ _ _ _ (c .before .before .before .before .before .before .before .before .before .before .answer2 .given .1) (room (c .before .before .before .before .before .before .before .before .before .before .before .before)) (simp length-append (omega (arith, three (c .before .before .before .before .before .before .before .before .before)))) (e .0) (e .1)
-
-same-length-4 : tie.Need-same-length-4
-same-length-4 c = search needs
 
 returns-5 : tie.Need-returns-5
 returns-5 c =
@@ -113,26 +74,26 @@ pub put-answer-spec : {M : Type 1} → statement M
 put-answer-spec =
     tie.close
     (tie.spec
-    sub-if2
+    (λ c. search needs)
     returns
-    enum-known-answer
+    (λ c. search needs)
     put-number-line-requires
-    enum-told
-    slice-aggregate-put
+    (λ c. search needs)
+    (λ c. search needs)
     put-requires
-    enum-known-answer-2
-    slice-aggregate-put-2
+    (λ c. search needs)
+    (λ c. search needs)
     put-requires-2
-    cast-put-number-line
+    (λ c. search needs)
     put-number-line-requires-2
-    enum-told-2
-    slice-aggregate-put-3
+    (λ c. search needs)
+    (λ c. search needs)
     put-requires-3
-    same-length
+    (λ c. search needs)
     returns-2
-    same-length-2
+    (λ c. search needs)
     returns-3
-    same-length-3
+    (λ c. search needs)
     returns-4
-    same-length-4
+    (λ c. search needs)
     returns-5)

@@ -8,18 +8,6 @@ use borrow.Author.Needs.{needs}
 use Rattle.command_lines.proofs.put_number_line.Statement.{statement}
 use Rattle.command_lines.proofs.put_number_line.Tie as tie
 
-put-number-requires : tie.Need-put-number-requires
-put-number-requires c κs = search needs
-
-slice-write-out : tie.Need-slice-write-out
-slice-write-out c = search needs
-
-add-result : tie.Need-add-result
-add-result c = search needs
-
-same-length : tie.Need-same-length
-same-length c = search needs
-
 returns : tie.Need-returns
 returns c =
     let a = c .before .before .before .before .before .args in
@@ -30,4 +18,4 @@ returns c =
 
 pub put-number-line-spec : {M : Type 1} → statement M
 put-number-line-spec =
-    tie.close (tie.spec put-number-requires slice-write-out add-result same-length returns)
+    tie.close (tie.spec (λ c κs. search needs) (λ c. search needs) (λ c. search needs) (λ c. search needs) returns)

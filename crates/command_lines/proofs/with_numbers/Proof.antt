@@ -3,33 +3,6 @@ use borrow.Author.Needs.{needs}
 use Rattle.command_lines.proofs.with_numbers.Statement.{statement}
 use Rattle.command_lines.proofs.with_numbers.Tie as tie
 
-enum-known-numbers : tie.Need-enum-known-numbers
-enum-known-numbers c = search needs
-
-enum-told : tie.Need-enum-told
-enum-told c = search needs
-
-returns : tie.Need-returns
-returns c = search needs
-
-enum-told-2 : tie.Need-enum-told-2
-enum-told-2 c = search needs
-
-enum-told-3 : tie.Need-enum-told-3
-enum-told-3 c = search needs
-
-enum-told-4 : tie.Need-enum-told-4
-enum-told-4 c = search needs
-
-enum-told-5 : tie.Need-enum-told-5
-enum-told-5 c = search needs
-
-enum-told-6 : tie.Need-enum-told-6
-enum-told-6 c = search needs
-
-enum-told-7 : tie.Need-enum-told-7
-enum-told-7 c = search needs
-
 returns-2 : tie.Need-returns-2
 returns-2 c = simp (c .enum-told2 .given .1, c .before .before .before .numbers .given .1)
 
@@ -52,15 +25,15 @@ pub with-numbers-spec : {M : Type 1} → statement M
 with-numbers-spec =
     tie.close
     (tie.spec
-    enum-known-numbers
-    enum-told
-    returns
-    enum-told-2
-    enum-told-3
-    enum-told-4
-    enum-told-5
-    enum-told-6
-    enum-told-7
+    (λ c. search needs)
+    (λ c. search needs)
+    (λ c. search needs)
+    (λ c. search needs)
+    (λ c. search needs)
+    (λ c. search needs)
+    (λ c. search needs)
+    (λ c. search needs)
+    (λ c. search needs)
     returns-2
     returns-3
     returns-4

@@ -5,33 +5,15 @@ use Rattle.ledger_lent.proofs.assign.Statement.{statement}
 use Rattle.ledger_lent.proofs.assign.Tie as tie
 
 -- src/lib.rt:28:9
-mark-requires : tie.Need-mark-requires
-mark-requires c κs = search needs
-
 -- src/lib.rt:30:9
-clear-requires : tie.Need-clear-requires
-clear-requires c κs = search needs
-
 -- src/lib.rt:17:1
-same-length : tie.Need-same-length
-same-length c = search needs
-
 -- src/lib.rt:17:1
-same-length-2 : tie.Need-same-length-2
-same-length-2 c = search needs
-
 -- src/lib.rt:17:1
 returns : tie.Need-returns
 returns c = of-value _ _ (c .before .before .before .before .before .before .before .if1 .taken) _ _ _ _ _ (c .before .before .before .before .mark .ensures)
 
 -- src/lib.rt:17:1
-same-length-3 : tie.Need-same-length-3
-same-length-3 c = search needs
-
 -- src/lib.rt:17:1
-same-length-4 : tie.Need-same-length-4
-same-length-4 c = search needs
-
 -- src/lib.rt:17:1
 returns-2 : tie.Need-returns-2
 returns-2 c = of-value _ _ (c .before .before .before .before .before .before .before .if1 .left) _ _ _ _ _ (c .before .before .before .before .clear .ensures)
@@ -40,11 +22,11 @@ pub assign-spec : {M : Type 1} → statement M
 assign-spec =
     tie.close
     (tie.spec
-    mark-requires
-    clear-requires
-    same-length
-    same-length-2
+    (λ c κs. search needs)
+    (λ c κs. search needs)
+    (λ c. search needs)
+    (λ c. search needs)
     returns
-    same-length-3
-    same-length-4
+    (λ c. search needs)
+    (λ c. search needs)
     returns-2)

@@ -5,21 +5,9 @@ use Rattle.ledger_lent.proofs.mark_then_back.Statement.{statement}
 use Rattle.ledger_lent.proofs.mark_then_back.Tie as tie
 
 -- src/lib.rt:121:9
-assign-requires : tie.Need-assign-requires
-assign-requires c κs = search needs
-
 -- src/lib.rt:124:9
-take-back-through-requires : tie.Need-take-back-through-requires
-take-back-through-requires c κs = search needs
-
 -- src/lib.rt:111:1
-same-length : tie.Need-same-length
-same-length c = search needs
-
 -- src/lib.rt:111:1
-same-length-2 : tie.Need-same-length-2
-same-length-2 c = search needs
-
 -- src/lib.rt:111:1
 returns : tie.Need-returns
 returns c = two-calls _ _ _ _ _ _ _ (c .before .before .before .before .before .before .before .before .before .before .before .assign .ensures) (c .before .before .before .take-back-through .ensures)
@@ -27,4 +15,4 @@ returns c = two-calls _ _ _ _ _ _ _ (c .before .before .before .before .before .
 pub mark-then-back-spec : {M : Type 1} → statement M
 mark-then-back-spec =
     tie.close
-    (tie.spec assign-requires take-back-through-requires same-length same-length-2 returns)
+    (tie.spec (λ c κs. search needs) (λ c κs. search needs) (λ c. search needs) (λ c. search needs) returns)

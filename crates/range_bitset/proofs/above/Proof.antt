@@ -13,12 +13,6 @@ use Rattle.bits.proofs.Masks.{bit-from, none-above}
 use Rattle.range_bitset.proofs.above.Statement.{statement}
 use Rattle.range_bitset.proofs.above.Tie as tie
 
-add-result : tie.Need-add-result
-add-result c = search needs
-
-shl-result : tie.Need-shl-result
-shl-result c = search needs
-
 returns : tie.Need-returns
 returns c =
     λ i. bit-zero i ∙ sym (ap (λ (x : ℕ). leb x i && ltb i 64) (add-one (c .before .args .bit)) ∙ none-above 64 (c .before .args .bit) i (omega arith))
@@ -27,4 +21,4 @@ returns-2 : tie.Need-returns-2
 returns-2 c = λ i. bit-from 64 (c .before .args .bit + 1) i
 
 pub above-spec : {M : Type 1} → statement M
-above-spec = tie.close (tie.spec add-result shl-result returns returns-2)
+above-spec = tie.close (tie.spec (λ c. search needs) (λ c. search needs) returns returns-2)

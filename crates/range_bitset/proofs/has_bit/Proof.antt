@@ -6,11 +6,8 @@ use borrow.Author.Needs.{needs}
 use Rattle.range_bitset.proofs.has_bit.Statement.{statement}
 use Rattle.range_bitset.proofs.has_bit.Tie as tie
 
-shl-result : tie.Need-shl-result
-shl-result c = search needs
-
 returns : tie.Need-returns
 returns c = ap not (test-shifted 64 (c .args .word) (c .args .i) (c .pre)) ∙ Bool·not-not _
 
 pub has-bit-spec : {M : Type 1} → statement M
-has-bit-spec = tie.close (tie.spec shl-result returns)
+has-bit-spec = tie.close (tie.spec (λ c. search needs) returns)

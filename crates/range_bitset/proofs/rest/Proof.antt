@@ -4,11 +4,8 @@ use borrow.Author.Needs.{needs}
 use Rattle.range_bitset.proofs.rest.Statement.{statement}
 use Rattle.range_bitset.proofs.rest.Tie as tie
 
-shl-result : tie.Need-shl-result
-shl-result c = search needs
-
 returns : tie.Need-returns
 returns c = λ i. bit-from 64 (c .args .from) i
 
 pub rest-spec : {M : Type 1} → statement M
-rest-spec = tie.close (tie.spec shl-result returns)
+rest-spec = tie.close (tie.spec (λ c. search needs) returns)

@@ -4,11 +4,8 @@ use borrow.Author.Needs.{needs}
 use Rattle.range_bitset.proofs.single.Statement.{statement}
 use Rattle.range_bitset.proofs.single.Tie as tie
 
-shl-result : tie.Need-shl-result
-shl-result c = search needs
-
 returns : tie.Need-returns
 returns c = single 64 (c .args .i) (c .pre)
 
 pub single-spec : {M : Type 1} → statement M
-single-spec = tie.close (tie.spec shl-result returns)
+single-spec = tie.close (tie.spec (λ c. search needs) returns)

@@ -9,18 +9,6 @@ use Rattle.saved_list.proofs.check_length.Tie as tie
 returns : tie.Need-returns
 returns c = sym (length-bad (c .before .before .args .file .now) (λ e. omega arith))
 
-be32-requires : tie.Need-be32-requires
-be32-requires c κs = search needs
-
-cast-count : tie.Need-cast-count
-cast-count c = search needs
-
-mul-if2 : tie.Need-mul-if2
-mul-if2 c = search needs
-
-add-if2 : tie.Need-add-if2
-add-if2 c = search needs
-
 returns-2 : tie.Need-returns-2
 returns-2 c = sym (length-bad (c .before .before .before .before .args .file .now) (λ e. omega arith))
 
@@ -29,4 +17,12 @@ returns-3 c = sym (length-good (c .before .before .before .before .args .file .n
 
 pub check-length-spec : {M : Type 1} → statement M
 check-length-spec =
-    tie.close (tie.spec returns be32-requires cast-count mul-if2 add-if2 returns-2 returns-3)
+    tie.close
+    (tie.spec
+    returns
+    (λ c κs. search needs)
+    (λ c. search needs)
+    (λ c. search needs)
+    (λ c. search needs)
+    returns-2
+    returns-3)

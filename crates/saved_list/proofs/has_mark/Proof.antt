@@ -5,29 +5,11 @@ use borrow.Author.Needs.{needs}
 use Rattle.saved_list.proofs.has_mark.Statement.{statement}
 use Rattle.saved_list.proofs.has_mark.Tie as tie
 
-shared-slice-read-if1 : tie.Need-shared-slice-read-if1
-shared-slice-read-if1 c = search needs
-
-array-read-if1 : tie.Need-array-read-if1
-array-read-if1 c = search needs
-
 returns : tie.Need-returns
 returns c = simp (begins-at (c .before .before .args .file .now) (search needs), ne-eqb _ _ (c .if1 .taken))
 
-shared-slice-read-if2 : tie.Need-shared-slice-read-if2
-shared-slice-read-if2 c = search needs
-
-array-read-if2 : tie.Need-array-read-if2
-array-read-if2 c = search needs
-
 returns-2 : tie.Need-returns-2
 returns-2 c = simp (begins-at (c .before .before .before .before .args .file .now) (search needs), eq-eqb _ _ (c .before .before .if1 .left), ne-eqb _ _ (c .if2 .taken))
-
-shared-slice-read-if3 : tie.Need-shared-slice-read-if3
-shared-slice-read-if3 c = search needs
-
-array-read-if3 : tie.Need-array-read-if3
-array-read-if3 c = search needs
 
 returns-3 : tie.Need-returns-3
 returns-3 c =
@@ -43,13 +25,13 @@ pub has-mark-spec : {M : Type 1} → statement M
 has-mark-spec =
     tie.close
     (tie.spec
-    shared-slice-read-if1
-    array-read-if1
+    (λ c. search needs)
+    (λ c. search needs)
     returns
-    shared-slice-read-if2
-    array-read-if2
+    (λ c. search needs)
+    (λ c. search needs)
     returns-2
-    shared-slice-read-if3
-    array-read-if3
+    (λ c. search needs)
+    (λ c. search needs)
     returns-3
     returns-4)

@@ -10,15 +10,9 @@ use Rattle.saved_list.proofs.read_header.Tie as tie
 returns : tie.Need-returns
 returns c = sym (header-short (c .before .before .args .file .now) (search needs))
 
-has-mark-requires : tie.Need-has-mark-requires
-has-mark-requires c κs = search needs
-
 returns-2 : tie.Need-returns-2
 returns-2 c =
     sym (header-unmarked (c .before .before .before .before .args .file .now) (search needs) (sym (c .before .has-mark .ensures) ∙ not-true _ (c .if2 .taken)))
-
-be16-requires : tie.Need-be16-requires
-be16-requires c κs = search needs
 
 returns-3 : tie.Need-returns-3
 returns-3 c =
@@ -26,12 +20,6 @@ returns-3 c =
     sym
     (header-version (b .before .before .before .args .file .now) (search needs) (sym (b .has-mark .ensures) ∙ not-false _ (c .before .before .if2 .left))
     (λ e. omega arith))
-
-be16-requires-2 : tie.Need-be16-requires-2
-be16-requires-2 c κs = search needs
-
-be32-requires : tie.Need-be32-requires
-be32-requires c κs = search needs
 
 returns-4 : tie.Need-returns-4
 returns-4 c =
@@ -46,10 +34,10 @@ read-header-spec =
     tie.close
     (tie.spec
     returns
-    has-mark-requires
+    (λ c κs. search needs)
     returns-2
-    be16-requires
+    (λ c κs. search needs)
     returns-3
-    be16-requires-2
-    be32-requires
+    (λ c κs. search needs)
+    (λ c κs. search needs)
     returns-4)

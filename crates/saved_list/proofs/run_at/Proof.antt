@@ -9,26 +9,8 @@ use Rattle.saved_list.proofs.run_at.Tie as tie
 returns : tie.Need-returns
 returns c = sym (found-end (c .before .before .args .file .now) (c .before .before .args .index) (search needs))
 
-sub-held : tie.Need-sub-held
-sub-held c = search needs
-
 returns-2 : tie.Need-returns-2
 returns-2 c = sym (found-end (c .before .before .before .args .file .now) (c .before .before .before .args .index) (search needs))
-
-mul-at : tie.Need-mul-at
-mul-at c = search needs
-
-add-at : tie.Need-add-at
-add-at c = search needs
-
-be32-requires : tie.Need-be32-requires
-be32-requires c κs = search needs
-
-add-be32 : tie.Need-add-be32
-add-be32 c = search needs
-
-be32-requires-2 : tie.Need-be32-requires-2
-be32-requires-2 c κs = search needs
 
 returns-3 : tie.Need-returns-3
 unfolding runAt
@@ -41,11 +23,11 @@ run-at-spec =
     tie.close
     (tie.spec
     returns
-    sub-held
+    (λ c. search needs)
     returns-2
-    mul-at
-    add-at
-    be32-requires
-    add-be32
-    be32-requires-2
+    (λ c. search needs)
+    (λ c. search needs)
+    (λ c κs. search needs)
+    (λ c. search needs)
+    (λ c κs. search needs)
     returns-3)

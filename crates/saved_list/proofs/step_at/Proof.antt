@@ -7,21 +7,12 @@ use Rattle.saved_list.proofs.Steps.{run-below, at-moves, end-stays}
 use Rattle.saved_list.proofs.step_at.Statement.{statement}
 use Rattle.saved_list.proofs.step_at.Tie as tie
 
-run-at-requires : tie.Need-run-at-requires
-run-at-requires c κs = search needs
-
-enum-known-start : tie.Need-enum-known-start
-enum-known-start c = search needs
-
 add-t8 : tie.Need-add-t8
 add-t8 c =
     let a = c .before .before .before .before .before .args in
     record {
       fits = omega (arith, run-below (a .file .now) (a .at) _ _ (ap foundAnswer (sym (c .before .start .given .1)) ∙ c .before .before .before .run-at .ensures));
     }
-
-enum-told : tie.Need-enum-told
-enum-told c = search needs
 
 returns : tie.Need-returns
 returns c =
@@ -36,4 +27,4 @@ returns-2 c =
     (e, end-stays (a .file .now) (a .at) e)
 
 pub step-at-spec : {M : Type 1} → statement M
-step-at-spec = tie.close (tie.spec run-at-requires enum-known-start add-t8 enum-told returns returns-2)
+step-at-spec = tie.close (tie.spec (λ c κs. search needs) (λ c. search needs) add-t8 (λ c. search needs) returns returns-2)

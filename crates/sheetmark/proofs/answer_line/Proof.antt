@@ -7,24 +7,6 @@ use borrow.Author.Needs.{needs}
 use Rattle.sheetmark.proofs.answer_line.Statement.{statement}
 use Rattle.sheetmark.proofs.answer_line.Tie as tie
 
-parse-requires : tie.Need-parse-requires
-parse-requires c κs = search needs
-
-perform-requires : tie.Need-perform-requires
-perform-requires c κs = search needs
-
-put-answer-requires : tie.Need-put-answer-requires
-put-answer-requires c κs = search needs
-
-same-length : tie.Need-same-length
-same-length c = search needs
-
-same-length-2 : tie.Need-same-length-2
-same-length-2 c = search needs
-
-same-length-3 : tie.Need-same-length-3
-same-length-3 c = search needs
-
 returns : tie.Need-returns
 returns c =
     let p = c .before .before .before .before .before .before .before .before .before .perform in
@@ -49,10 +31,10 @@ pub answer-line-spec : {M : Type 1} → statement M
 answer-line-spec =
     tie.close
     (tie.spec
-    parse-requires
-    perform-requires
-    put-answer-requires
-    same-length
-    same-length-2
-    same-length-3
+    (λ c κs. search needs)
+    (λ c κs. search needs)
+    (λ c κs. search needs)
+    (λ c. search needs)
+    (λ c. search needs)
+    (λ c. search needs)
     returns)

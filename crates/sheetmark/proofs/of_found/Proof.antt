@@ -7,23 +7,8 @@ use borrow.Author.Needs.{needs}
 use Rattle.sheetmark.proofs.of_found.Statement.{statement}
 use Rattle.sheetmark.proofs.of_found.Tie as tie
 
-enum-known-found : tie.Need-enum-known-found
-enum-known-found c = search needs
-
-cast-t6 : tie.Need-cast-t6
-cast-t6 c = search needs
-
-enum-told : tie.Need-enum-told
-enum-told c = search needs
-
-enum-known-found-2 : tie.Need-enum-known-found-2
-enum-known-found-2 c = search needs
-
 returns : tie.Need-returns
 returns c = sym (ap (λ (p : Place). answerOf (low32 (ofPlace p))) (c .before .found .given .1))
-
-returns-2 : tie.Need-returns-2
-returns-2 c = search needs
 
 returns-3 : tie.Need-returns-3
 returns-3 c = sym (ap (λ (p : Place). answerOf (low32 (ofPlace p))) (c .before .found2 .given .1))
@@ -31,4 +16,11 @@ returns-3 c = sym (ap (λ (p : Place). answerOf (low32 (ofPlace p))) (c .before 
 pub of-found-spec : {M : Type 1} → statement M
 of-found-spec =
     tie.close
-    (tie.spec enum-known-found cast-t6 enum-told enum-known-found-2 returns returns-2 returns-3)
+    (tie.spec
+    (λ c. search needs)
+    (λ c. search needs)
+    (λ c. search needs)
+    (λ c. search needs)
+    returns
+    (λ c. search needs)
+    returns-3)

@@ -4,12 +4,6 @@ use borrow.Author.Needs.{needs}
 use Rattle.sheetmark.proofs.perform_before_new.Statement.{statement}
 use Rattle.sheetmark.proofs.perform_before_new.Tie as tie
 
-enum-known-command : tie.Need-enum-known-command
-enum-known-command c = search needs
-
-new-ledger-requires : tie.Need-new-ledger-requires
-new-ledger-requires c κs = search needs
-
 returns : tie.Need-returns
 returns c = performed _ _ _ _ _ _ _ (c .before .before .command .given .1) (c .new-ledger .ensures)
 
@@ -17,4 +11,4 @@ returns-2 : tie.Need-returns-2
 returns-2 c = bad-before-new (c .before .before .before .args .command) _ (c .match .keys2)
 
 pub perform-before-new-spec : {M : Type 1} → statement M
-perform-before-new-spec = tie.close (tie.spec enum-known-command new-ledger-requires returns returns-2)
+perform-before-new-spec = tie.close (tie.spec (λ c. search needs) (λ c κs. search needs) returns returns-2)

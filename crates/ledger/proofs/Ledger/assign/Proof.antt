@@ -10,32 +10,14 @@ use borrow.Author.Needs.{needs}
 use Rattle.ledger.proofs.Ledger.assign.Statement.{statement}
 use Rattle.ledger.proofs.Ledger.assign.Tie as tie
 
-refusal-requires : tie.Need-refusal-requires
-refusal-requires c κs = search needs
-
-declined-requires : tie.Need-declined-requires
-declined-requires c κs = search needs
-
 returns : tie.Need-returns
 returns c =
     not-lent _ _ _ _ _ _ _ (c .declined .result .answer) (c .declined .result .head) (c .declined .ensures .0) (c .declined .ensures .1) (c .before .before .refusal .ensures) (c .before .if1 .taken)
-
-cast-if2 : tie.Need-cast-if2
-cast-if2 c = search needs
-
-mul-if2 : tie.Need-mul-if2
-mul-if2 c = search needs
-
-declined-requires-2 : tie.Need-declined-requires-2
-declined-requires-2 c κs = search needs
 
 returns-2 : tie.Need-returns-2
 returns-2 c =
     let b = c .before .before .before .before in
     outside _ _ _ _ _ _ (c .declined2 .result .answer) (c .declined2 .result .head) (c .declined2 .ensures .0) (c .declined2 .ensures .1) (sym (b .before .refusal .ensures) ∙ b .if1 .left) (c .before .if2 .taken)
-
-declined-requires-3 : tie.Need-declined-requires-3
-declined-requires-3 c κs = search needs
 
 returns-3 : tie.Need-returns-3
 returns-3 c =
@@ -60,12 +42,6 @@ runs-fit-requires c κs =
     let l = lent-accepted _ _ _ _ (sym (b .before .refusal .ensures) ∙ b .if1 .left) in
     omega arith
 
-declined-requires-4 : tie.Need-declined-requires-4
-declined-requires-4 c κs = search needs
-
-same-length : tie.Need-same-length
-same-length c = search needs
-
 returns-4 : tie.Need-returns-4
 returns-4 c =
     let n = c .before .before in
@@ -80,15 +56,6 @@ write-call-requires c κs =
     let l = lent-accepted _ _ _ _ (sym (b .before .refusal .ensures) ∙ b .if1 .left) in
     (omega arith, omega arith)
 
-assign-requires : tie.Need-assign-requires
-assign-requires c κs = search needs
-
-same-length-2 : tie.Need-same-length-2
-same-length-2 c = search needs
-
-same-length-3 : tie.Need-same-length-3
-same-length-3 c = search needs
-
 returns-5 : tie.Need-returns-5
 returns-5 c =
     let a = c .before .before .before in
@@ -102,23 +69,23 @@ pub assign-spec : {M : Type 1} → statement M
 assign-spec =
     tie.close
     (tie.spec
-    refusal-requires
-    declined-requires
+    (λ c κs. search needs)
+    (λ c κs. search needs)
     returns
-    cast-if2
-    mul-if2
-    declined-requires-2
+    (λ c. search needs)
+    (λ c. search needs)
+    (λ c κs. search needs)
     returns-2
-    declined-requires-3
+    (λ c κs. search needs)
     returns-3
     sub-most
     sub-most-2
     runs-fit-requires
-    declined-requires-4
-    same-length
+    (λ c κs. search needs)
+    (λ c. search needs)
     returns-4
     write-call-requires
-    assign-requires
-    same-length-2
-    same-length-3
+    (λ c κs. search needs)
+    (λ c. search needs)
+    (λ c. search needs)
     returns-5)

@@ -4,18 +4,6 @@ use borrow.Author.Needs.{needs}
 use Rattle.ledger.proofs.Ledger.find.Statement.{statement}
 use Rattle.ledger.proofs.Ledger.find.Tie as tie
 
-next-one-requires : tie.Need-next-one-requires
-next-one-requires c κs = search needs
-
-place-or-requires : tie.Need-place-or-requires
-place-or-requires c κs = search needs
-
-next-zero-requires : tie.Need-next-zero-requires
-next-zero-requires c κs = search needs
-
-place-or-requires-2 : tie.Need-place-or-requires-2
-place-or-requires-2 c κs = search needs
-
 returns : tie.Need-returns
 returns c = rw (c .before .before .if1 .taken, c .place-or .ensures) (found-place _ _ _ _ _ (c .before .next-one .result) (c .before .next-one .ensures))
 
@@ -26,9 +14,9 @@ pub find-spec : {M : Type 1} → statement M
 find-spec =
     tie.close
     (tie.spec
-    next-one-requires
-    place-or-requires
-    next-zero-requires
-    place-or-requires-2
+    (λ c κs. search needs)
+    (λ c κs. search needs)
+    (λ c κs. search needs)
+    (λ c κs. search needs)
     returns
     returns-2)

@@ -8,21 +8,6 @@ use Rattle.ledger.proofs.Ledger.last_call.Tie as tie
 returns : tie.Need-returns
 returns c = last-none _ _ (omega arith)
 
-sub-last : tie.Need-sub-last
-sub-last c = search needs
-
-cast-last : tie.Need-cast-last
-cast-last c = search needs
-
-mul-last : tie.Need-mul-last
-mul-last c = search needs
-
-shared-slice-read-last : tie.Need-shared-slice-read-last
-shared-slice-read-last c = search needs
-
-sub-most : tie.Need-sub-most
-sub-most c = search needs
-
 returns-2 : tie.Need-returns-2
 returns-2 c = last-few _ _ (λ e. omega arith) (omega arith)
 
@@ -34,10 +19,10 @@ last-call-spec =
     tie.close
     (tie.spec
     returns
-    sub-last
-    cast-last
-    mul-last
-    shared-slice-read-last
-    sub-most
+    (λ c. search needs)
+    (λ c. search needs)
+    (λ c. search needs)
+    (λ c. search needs)
+    (λ c. search needs)
     returns-2
     returns-3)

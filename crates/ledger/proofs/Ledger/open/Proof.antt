@@ -4,86 +4,29 @@ use borrow.Author.Needs.{needs}
 use Rattle.ledger.proofs.Ledger.open.Statement.{statement}
 use Rattle.ledger.proofs.Ledger.open.Tie as tie
 
-read-header-requires : tie.Need-read-header-requires
-read-header-requires c κs = search needs
-
-enum-known-words : tie.Need-enum-known-words
-enum-known-words c = search needs
-
-enum-told : tie.Need-enum-told
-enum-told c = search needs
-
 returns : tie.Need-returns
 returns c = open-header _ _ _ _ _ (c .before .before .read-header .ensures) (c .enum-told .given .1)
-
-cast-new : tie.Need-cast-new
-cast-new c = search needs
-
-mul-new : tie.Need-mul-new
-mul-new c = search needs
-
-new-requires : tie.Need-new-requires
-new-requires c κs = search needs
-
-enum-known-set : tie.Need-enum-known-set
-enum-known-set c = search needs
-
-enum-told-2 : tie.Need-enum-told-2
-enum-told-2 c = search needs
 
 returns-2 : tie.Need-returns-2
 returns-2 c =
     open-capacity _ _ _ _ _ (c .before .before .before .before .before .before .read-header .ensures) _ _ (c .before .before .before .before .words .given .1) _ (c .before .before .new .ensures) _ (c .enum-told2 .given .1)
 
-cast-if1 : tie.Need-cast-if1
-cast-if1 c = search needs
-
 returns-3 : tie.Need-returns-3
 returns-3 c =
     open-journal _ _ _ _ _ (c .before .before .before .before .before .before .before .before .read-header .ensures) _ _ (c .before .before .before .before .before .before .words .given .1) _ (c .before .before .before .before .new .ensures) _ (c .before .before .set .given .1) (c .if1 .taken)
-
-check-length-requires : tie.Need-check-length-requires
-check-length-requires c κs = search needs
-
-enum-told-3 : tie.Need-enum-told-3
-enum-told-3 c = search needs
-
-enum-told-4 : tie.Need-enum-told-4
-enum-told-4 c = search needs
 
 returns-4 : tie.Need-returns-4
 returns-4 c =
     open-length _ _ _ _ _ (c .before .before .before .before .before .before .before .before .before .before .before .read-header .ensures) _ _ (c .before .before .before .before .before .before .before .before .before .words .given .1) _ (c .before .before .before .before .before .before .before .new .ensures) _ (c .before .before .before .before .before .set .given .1) (c .before .before .before .if1 .left) _ (c .before .before .check-length .ensures) (c .enum-told4 .given .1)
 
-cast-t17 : tie.Need-cast-t17
-cast-t17 c = search needs
-
-refusal-requires : tie.Need-refusal-requires
-refusal-requires c κs = search needs
-
 returns-5 : tie.Need-returns-5
 returns-5 c =
     open-lent _ _ _ _ _ (c .before .before .before .before .before .before .before .before .before .before .before .before .before .read-header .ensures) _ _ (c .before .before .before .before .before .before .before .before .before .before .before .words .given .1) _ (c .before .before .before .before .before .before .before .before .before .new .ensures) _ (c .before .before .before .before .before .before .before .set .given .1) (c .before .before .before .before .before .if1 .left) _ (c .before .before .before .before .check-length .ensures) (c .before .before .enum-told3 .given .1) _ (c .before .refusal .ensures) (c .if2 .taken)
-
-check-runs-requires : tie.Need-check-runs-requires
-check-runs-requires c κs = search needs
-
-enum-known-index : tie.Need-enum-known-index
-enum-known-index c = search needs
 
 returns-6 : tie.Need-returns-6
 returns-6 c =
     let b = c .before .before .before .before in
     open-run _ _ _ _ _ (b .before .before .before .before .before .before .before .before .before .before .before .before .before .read-header .ensures) _ _ (b .before .before .before .before .before .before .before .before .before .before .before .words .given .1) _ (b .before .before .before .before .before .before .before .before .before .new .ensures) _ (b .before .before .before .before .before .before .before .set .given .1) (b .before .before .before .before .before .if1 .left) _ (b .before .before .before .before .check-length .ensures) (b .before .before .enum-told3 .given .1) _ (b .before .refusal .ensures) (b .if2 .left) _ (c .before .before .before .check-runs .ensures) _ (c .before .index .given .1)
-
-enum-told-5 : tie.Need-enum-told-5
-enum-told-5 c = search needs
-
-assign-file-requires : tie.Need-assign-file-requires
-assign-file-requires c κs = search needs
-
-same-length : tie.Need-same-length
-same-length c = search needs
 
 returns-7 : tie.Need-returns-7
 returns-7 c =
@@ -97,29 +40,29 @@ pub open-spec : {M : Type 1} → statement M
 open-spec =
     tie.close
     (tie.spec
-    read-header-requires
-    enum-known-words
-    enum-told
+    (λ c κs. search needs)
+    (λ c. search needs)
+    (λ c. search needs)
     returns
-    cast-new
-    mul-new
-    new-requires
-    enum-known-set
-    enum-told-2
+    (λ c. search needs)
+    (λ c. search needs)
+    (λ c κs. search needs)
+    (λ c. search needs)
+    (λ c. search needs)
     returns-2
-    cast-if1
+    (λ c. search needs)
     returns-3
-    check-length-requires
-    enum-told-3
-    enum-told-4
+    (λ c κs. search needs)
+    (λ c. search needs)
+    (λ c. search needs)
     returns-4
-    cast-t17
-    refusal-requires
+    (λ c. search needs)
+    (λ c κs. search needs)
     returns-5
-    check-runs-requires
-    enum-known-index
+    (λ c κs. search needs)
+    (λ c. search needs)
     returns-6
-    enum-told-5
-    assign-file-requires
-    same-length
+    (λ c. search needs)
+    (λ c κs. search needs)
+    (λ c. search needs)
     returns-7)

@@ -7,9 +7,6 @@ use borrow.Author.Needs.{needs}
 use Rattle.ledger.proofs.Ledger.refusal.Statement.{statement}
 use Rattle.ledger.proofs.Ledger.refusal.Tie as tie
 
-refusal-requires : tie.Need-refusal-requires
-refusal-requires c κs = search needs
-
 returns : tie.Need-returns
 returns c = set-refused _ _ _ _ _ (c .before .refusal .ensures) (c .if1 .taken)
 
@@ -42,4 +39,4 @@ returns-6 c =
 
 pub refusal-spec : {M : Type 1} → statement M
 refusal-spec =
-    tie.close (tie.spec refusal-requires returns returns-2 returns-3 returns-4 returns-5 returns-6)
+    tie.close (tie.spec (λ c κs. search needs) returns returns-2 returns-3 returns-4 returns-5 returns-6)

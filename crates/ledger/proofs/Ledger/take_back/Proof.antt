@@ -8,12 +8,6 @@ use borrow.Author.Needs.{needs}
 use Rattle.ledger.proofs.Ledger.take_back.Statement.{statement}
 use Rattle.ledger.proofs.Ledger.take_back.Tie as tie
 
-refusal-requires : tie.Need-refusal-requires
-refusal-requires c κs = search needs
-
-declined-requires : tie.Need-declined-requires
-declined-requires c κs = search needs
-
 returns : tie.Need-returns
 returns c =
     declined-as Back _ _ _ _ (c .declined .result .answer) (c .declined .result .head) (c .declined .ensures .0) (c .declined .ensures .1)
@@ -23,15 +17,6 @@ last-call-requires : tie.Need-last-call-requires
 last-call-requires c κs =
     let a = lent-accepted _ _ _ _ (sym (c .before .refusal .ensures) ∙ c .if1 .left) in
     omega (arith, a .used-most, a .journal-long)
-
-enum-known-runs : tie.Need-enum-known-runs
-enum-known-runs c = search needs
-
-enum-told : tie.Need-enum-told
-enum-told c = search needs
-
-declined-requires-2 : tie.Need-declined-requires-2
-declined-requires-2 c κs = search needs
 
 returns-2 : tie.Need-returns-2
 returns-2 c =
@@ -57,9 +42,6 @@ assign-runs-requires : tie.Need-assign-runs-requires
 assign-runs-requires c κs =
     back-room _ (c .before .before .before .before .before .before .before .before .before .before .args .storage .now) _ _ _ (sym (c .before .before .before .before .before .before .before .refusal .ensures) ∙ c .before .before .before .before .before .before .if1 .left) (last-read _ _ _ _ _ (c .before .before .before .before .before .last-call .ensures) (c .before .before .before .runs .given .1))
 
-same-length : tie.Need-same-length
-same-length c = search needs
-
 returns-3 : tie.Need-returns-3
 returns-3 c =
     taken-back _ _ _ _ _ _ _ _ (sym (c .before .before .before .before .before .before .before .before .before .before .before .refusal .ensures) ∙ c .before .before .before .before .before .before .before .before .before .before .if1 .left) (last-read _ _ _ _ _ (c .before .before .before .before .before .before .before .before .before .last-call .ensures) (c .before .before .before .before .before .before .before .runs .given .1)) (c .before .before .before .assign-runs .kept .1 .0) (c .before .before .before .assign-runs .ensures)
@@ -68,17 +50,17 @@ pub take-back-spec : {M : Type 1} → statement M
 take-back-spec =
     tie.close
     (tie.spec
-    refusal-requires
-    declined-requires
+    (λ c κs. search needs)
+    (λ c κs. search needs)
     returns
     last-call-requires
-    enum-known-runs
-    enum-told
-    declined-requires-2
+    (λ c. search needs)
+    (λ c. search needs)
+    (λ c κs. search needs)
     returns-2
     mul-first
     add-first
     sub-first
     assign-runs-requires
-    same-length
+    (λ c. search needs)
     returns-3)

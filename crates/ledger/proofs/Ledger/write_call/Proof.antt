@@ -5,33 +5,6 @@ use borrow.Author.Needs.{needs}
 use Rattle.ledger.proofs.Ledger.write_call.Statement.{statement}
 use Rattle.ledger.proofs.Ledger.write_call.Tie as tie
 
-write-runs-requires : tie.Need-write-runs-requires
-write-runs-requires c κs = search needs
-
-mul-last : tie.Need-mul-last
-mul-last c = search needs
-
-add-last : tie.Need-add-last
-add-last c = search needs
-
-packed-requires : tie.Need-packed-requires
-packed-requires c κs = search needs
-
-cast-journal : tie.Need-cast-journal
-cast-journal c = search needs
-
-mul-journal : tie.Need-mul-journal
-mul-journal c = search needs
-
-slice-write-journal : tie.Need-slice-write-journal
-slice-write-journal c = search needs
-
-add-result : tie.Need-add-result
-add-result c = search needs
-
-same-length : tie.Need-same-length
-same-length c = search needs
-
 returns : tie.Need-returns
 returns c = writing-closed _ _ _ _ _ _ _ _ _ _ _ _ _ (omega arith) (omega arith) (c .packed .ensures) (omega arith) (c .before .before .before .write-runs .ensures)
 
@@ -39,13 +12,13 @@ pub write-call-spec : {M : Type 1} → statement M
 write-call-spec =
     tie.close
     (tie.spec
-    write-runs-requires
-    mul-last
-    add-last
-    packed-requires
-    cast-journal
-    mul-journal
-    slice-write-journal
-    add-result
-    same-length
+    (λ c κs. search needs)
+    (λ c. search needs)
+    (λ c. search needs)
+    (λ c κs. search needs)
+    (λ c. search needs)
+    (λ c. search needs)
+    (λ c. search needs)
+    (λ c. search needs)
+    (λ c. search needs)
     returns)

@@ -5,27 +5,6 @@ use borrow.Author.Needs.{needs}
 use Rattle.range_bitset.proofs.RangeBitset.assign_in_word.Statement.{statement}
 use Rattle.range_bitset.proofs.RangeBitset.assign_in_word.Tie as tie
 
-open-block-requires : tie.Need-open-block-requires
-open-block-requires c κs = search needs
-
-mixed-word-requires : tie.Need-mixed-word-requires
-mixed-word-requires c κs = search needs
-
-combined-requires : tie.Need-combined-requires
-combined-requires c κs = search needs
-
-write-word-requires : tie.Need-write-word-requires
-write-word-requires c κs = search needs
-
-apply-population-requires : tie.Need-apply-population-requires
-apply-population-requires c κs = search needs
-
-close-block-requires : tie.Need-close-block-requires
-close-block-requires c κs = search needs
-
-same-length : tie.Need-same-length
-same-length c = search needs
-
 returns : tie.Need-returns
 returns c =
     word-assigned _ _ _ _ _ (c .before .before .before .before .before .before .before .before .before .before .before .before .before .before .before .before .before .open-block .last .0) (c .before .before .before .before .before .before .before .before .before .before .write-word .last .0) (c .before .before .before .before .before .before .apply-population .last .0) _ (c .before .before .before .before .before .before .before .before .before .before .before .before .before .mixed-word .result) (c .before .before .before .before .before .before .before .before .before .before .before .before .combined .result) _
@@ -44,11 +23,11 @@ pub assign-in-word-spec : {M : Type 1} → statement M
 assign-in-word-spec =
     tie.close
     (tie.spec
-    open-block-requires
-    mixed-word-requires
-    combined-requires
-    write-word-requires
-    apply-population-requires
-    close-block-requires
-    same-length
+    (λ c κs. search needs)
+    (λ c κs. search needs)
+    (λ c κs. search needs)
+    (λ c κs. search needs)
+    (λ c κs. search needs)
+    (λ c κs. search needs)
+    (λ c. search needs)
     returns)

@@ -73,57 +73,15 @@ high c =
     })
     (c .if3 .came)
 
-sub-last-word : tie.Need-sub-last-word
-sub-last-word c = search needs
-
-sub-span : tie.Need-sub-span
-sub-span c = search needs
-
-add-span : tie.Need-add-span
-add-span c = search needs
-
-span-requires : tie.Need-span-requires
-span-requires c κs = search needs
-
-assign-in-word-requires : tie.Need-assign-in-word-requires
-assign-in-word-requires c κs = search needs
-
-same-length : tie.Need-same-length
-same-length c = search needs
-
 returns : tie.Need-returns
 returns c =
     assigns-to _ _ _ (omega arith) (omega arith) refl refl (c .before .before .assign-in-word .ensures _ _ (c .before .before .before .before .span .ensures) (omega arith) (omega arith))
 
-rest-requires : tie.Need-rest-requires
-rest-requires c κs = search needs
-
-assign-in-word-requires-2 : tie.Need-assign-in-word-requires-2
-assign-in-word-requires-2 c κs = search needs
-
-add-whole-from : tie.Need-add-whole-from
-add-whole-from c = search needs
-
-add-whole-to : tie.Need-add-whole-to
-add-whole-to c = search needs
-
-span-requires-2 : tie.Need-span-requires-2
-span-requires-2 c κs = search needs
-
 assign-in-word-requires-3 : tie.Need-assign-in-word-requires-3
 assign-in-word-requires-3 c κs = (room-same _ _ _ (c .before .before .before .before .before .before .pre .0) (low (c .before .before .before) .long), omega arith)
 
-wrapping-add-u32-requires : tie.Need-wrapping-add-u32-requires
-wrapping-add-u32-requires c κs = search needs
-
-sub-whole-to : tie.Need-sub-whole-to
-sub-whole-to c = search needs
-
 assign-whole-words-requires : tie.Need-assign-whole-words-requires
 assign-whole-words-requires c κs = (room-same _ _ _ (c .before .before .before .before .before .pre .0) (high (c .before) .long), omega (arith, high (c .before) .to, c .before .before .before .before .before .pre .2))
-
-wrapping-add-u32-requires-2 : tie.Need-wrapping-add-u32-requires-2
-wrapping-add-u32-requires-2 c κs = search needs
 
 same-length-2 : tie.Need-same-length-2
 same-length-2 c = c .before .before .before .assign-whole-words .kept .0 ∙ high (c .before .before .before .before .before) .long
@@ -139,22 +97,22 @@ pub assign-range-spec : {M : Type 1} → statement M
 assign-range-spec =
     tie.close
     (tie.spec
-    sub-last-word
-    sub-span
-    add-span
-    span-requires
-    assign-in-word-requires
-    same-length
+    (λ c. search needs)
+    (λ c. search needs)
+    (λ c. search needs)
+    (λ c κs. search needs)
+    (λ c κs. search needs)
+    (λ c. search needs)
     returns
-    rest-requires
-    assign-in-word-requires-2
-    add-whole-from
-    add-whole-to
-    span-requires-2
+    (λ c κs. search needs)
+    (λ c κs. search needs)
+    (λ c. search needs)
+    (λ c. search needs)
+    (λ c κs. search needs)
     assign-in-word-requires-3
-    wrapping-add-u32-requires
-    sub-whole-to
+    (λ c κs. search needs)
+    (λ c. search needs)
     assign-whole-words-requires
-    wrapping-add-u32-requires-2
+    (λ c κs. search needs)
     same-length-2
     returns-2)

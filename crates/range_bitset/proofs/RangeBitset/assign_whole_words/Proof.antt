@@ -77,54 +77,21 @@ high c =
 returns : tie.Need-returns
 returns c = assigns-none _ _ _ _ _ (omega arith)
 
-sub-last-block : tie.Need-sub-last-block
-sub-last-block c = search needs
-
-sub-span : tie.Need-sub-span
-sub-span c = search needs
-
-add-span : tie.Need-add-span
-add-span c = search needs
-
-span-requires : tie.Need-span-requires
-span-requires c κs = search needs
-
 assign-words-requires : tie.Need-assign-words-requires
 assign-words-requires c κs =
     (c .before .before .before .before .before .pre .0, omega (arith, c .before .before .before .before .before .pre .1), spans-lt _ _ _ _ (c .before .span .ok) (c .before .span .ensures) (omega (arith, c .before .before .before .before .before .pre .1)))
-
-same-length : tie.Need-same-length
-same-length c = search needs
 
 returns-2 : tie.Need-returns-2
 returns-2 c =
     assigns-to _ _ _ (omega arith) (omega arith) refl refl (c .before .before .assign-words .ensures _ _ (c .before .before .before .before .span .ensures) (omega arith) (omega (arith, c .before .before .before .before .before .before .before .before .pre .1)))
 
-rest-requires : tie.Need-rest-requires
-rest-requires c κs = search needs
-
 assign-words-requires-2 : tie.Need-assign-words-requires-2
 assign-words-requires-2 c κs =
     (c .before .before .before .before .before .before .pre .0, omega (arith, c .before .before .before .before .before .before .pre .1), spans-lt _ _ _ _ (c .rest .ok) (c .rest .ensures) (omega (arith, c .before .before .before .before .before .before .pre .1)))
 
-add-blocks-from : tie.Need-add-blocks-from
-add-blocks-from c = search needs
-
-add-blocks-to : tie.Need-add-blocks-to
-add-blocks-to c = search needs
-
-span-requires-2 : tie.Need-span-requires-2
-span-requires-2 c κs = search needs
-
 assign-words-requires-3 : tie.Need-assign-words-requires-3
 assign-words-requires-3 c κs =
     (room-same _ _ _ (c .before .before .before .before .before .before .before .pre .0) (low (c .before .before .before) .long), omega (arith, c .before .before .before .before .before .before .before .pre .1), spans-lt _ _ _ _ (c .span2 .ok) (c .span2 .ensures) (omega (arith, c .before .before .before .before .before .before .before .pre .1)))
-
-wrapping-add-u32-requires : tie.Need-wrapping-add-u32-requires
-wrapping-add-u32-requires c κs = search needs
-
-sub-blocks-to : tie.Need-sub-blocks-to
-sub-blocks-to c = search needs
 
 span-requires-3 : tie.Need-span-requires-3
 span-requires-3 c κs = (c .before .if5 .taken, omega (arith, high (c .before .before) .to, c .before .before .before .before .before .before .before .pre .1, c .before .before .before .before .before .before .before .pre .0 .most))
@@ -133,9 +100,6 @@ assign-blocks-requires : tie.Need-assign-blocks-requires
 assign-blocks-requires c κs =
     let h = high (c .before .before .before) in
     (room-same _ _ _ (c .before .before .before .before .before .before .before .before .pre .0) (h .long), spans-lt _ _ _ _ (c .span3 .ok) (c .span3 .ensures) (omega (arith, h .to, c .before .before .before .before .before .before .before .before .pre .1)))
-
-wrapping-add-u32-requires-2 : tie.Need-wrapping-add-u32-requires-2
-wrapping-add-u32-requires-2 c κs = search needs
 
 same-length-2 : tie.Need-same-length-2
 same-length-2 c = c .before .before .before .assign-blocks .kept .0 ∙ high (c .before .before .before .before .before .before .before) .long
@@ -166,24 +130,24 @@ assign-whole-words-spec =
     tie.close
     (tie.spec
     returns
-    sub-last-block
-    sub-span
-    add-span
-    span-requires
+    (λ c. search needs)
+    (λ c. search needs)
+    (λ c. search needs)
+    (λ c κs. search needs)
     assign-words-requires
-    same-length
+    (λ c. search needs)
     returns-2
-    rest-requires
+    (λ c κs. search needs)
     assign-words-requires-2
-    add-blocks-from
-    add-blocks-to
-    span-requires-2
+    (λ c. search needs)
+    (λ c. search needs)
+    (λ c κs. search needs)
     assign-words-requires-3
-    wrapping-add-u32-requires
-    sub-blocks-to
+    (λ c κs. search needs)
+    (λ c. search needs)
     span-requires-3
     assign-blocks-requires
-    wrapping-add-u32-requires-2
+    (λ c κs. search needs)
     same-length-2
     returns-3
     same-length-3

@@ -9,27 +9,6 @@ use borrow.Author.Needs.{needs}
 use Rattle.range_bitset.proofs.RangeBitset.assign_words.Statement.{statement}
 use Rattle.range_bitset.proofs.RangeBitset.assign_words.Tie as tie
 
-open-block-requires : tie.Need-open-block-requires
-open-block-requires c κs = search needs
-
-mixed-words-population-requires : tie.Need-mixed-words-population-requires
-mixed-words-population-requires c κs = search needs
-
-size-if-requires : tie.Need-size-if-requires
-size-if-requires c κs = search needs
-
-write-masks-requires : tie.Need-write-masks-requires
-write-masks-requires c κs = search needs
-
-apply-population-requires : tie.Need-apply-population-requires
-apply-population-requires c κs = search needs
-
-close-block-requires : tie.Need-close-block-requires
-close-block-requires c κs = search needs
-
-same-length : tie.Need-same-length
-same-length c = search needs
-
 returns : tie.Need-returns
 returns c =
     λ a b sp l u.
@@ -47,11 +26,11 @@ pub assign-words-spec : {M : Type 1} → statement M
 assign-words-spec =
     tie.close
     (tie.spec
-    open-block-requires
-    mixed-words-population-requires
-    size-if-requires
-    write-masks-requires
-    apply-population-requires
-    close-block-requires
-    same-length
+    (λ c κs. search needs)
+    (λ c κs. search needs)
+    (λ c κs. search needs)
+    (λ c κs. search needs)
+    (λ c κs. search needs)
+    (λ c κs. search needs)
+    (λ c. search needs)
     returns)

@@ -4,12 +4,6 @@ use borrow.Author.Needs.{needs}
 use Rattle.range_bitset.proofs.RangeBitset.bits_from.Statement.{statement}
 use Rattle.range_bitset.proofs.RangeBitset.bits_from.Tie as tie
 
-word-bits-requires : tie.Need-word-bits-requires
-word-bits-requires c κs = search needs
-
-rest-requires : tie.Need-rest-requires
-rest-requires c κs = search needs
-
 returns : tie.Need-returns
 returns c =
     let some = in-first _ _ _ (c .before .before .before .args .value) (c .before .before .before .pre .1) _ _ (c .before .word-bits .ok) (c .before .word-bits .ensures) (c .rest .ensures) in
@@ -17,4 +11,4 @@ returns c =
     record { some = some; none = none }
 
 pub bits-from-spec : {M : Type 1} → statement M
-bits-from-spec = tie.close (tie.spec word-bits-requires rest-requires returns)
+bits-from-spec = tie.close (tie.spec (λ c κs. search needs) (λ c κs. search needs) returns)

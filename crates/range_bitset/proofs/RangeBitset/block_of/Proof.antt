@@ -9,35 +9,14 @@ use borrow.Author.Needs.{needs}
 use Rattle.range_bitset.proofs.RangeBitset.block_of.Statement.{statement}
 use Rattle.range_bitset.proofs.RangeBitset.block_of.Tie as tie
 
-point-refusal-requires : tie.Need-point-refusal-requires
-point-refusal-requires c κs = search needs
-
 returns : tie.Need-returns
 returns c = hides _ _ _ _ (c .before .point-refusal .ensures) (c .if1 .taken)
-
-cast-words : tie.Need-cast-words
-cast-words c = search needs
 
 block-state-requires : tie.Need-block-state-requires
 block-state-requires c κs = let q = point-accepted _ _ _ (sym (c .before .before .point-refusal .ensures) ∙ c .before .if1 .left) in (q .0, omega (arith, q .1))
 
-enum-told : tie.Need-enum-told
-enum-told c = search needs
-
-enum-told-2 : tie.Need-enum-told-2
-enum-told-2 c = search needs
-
 words-per-block-requires : tie.Need-words-per-block-requires
 words-per-block-requires c κs = let q = point-accepted (c .before .before .before .before .before .before .before .args .self) (c .before .before .before .before .before .before .before .args .storage .now) (c .before .before .before .before .before .before .before .args .index) (sym (c .before .before .before .before .before .point-refusal .ensures) ∙ c .before .before .before .before .if1 .left) in (q .0 .most, omega (arith, q .1))
-
-cast-t12 : tie.Need-cast-t12
-cast-t12 c = search needs
-
-mul-t13 : tie.Need-mul-t13
-mul-t13 c = search needs
-
-enum-told-3 : tie.Need-enum-told-3
-enum-told-3 c = search needs
 
 mixed-block-requires : tie.Need-mixed-block-requires
 mixed-block-requires c κs = let q = point-accepted _ _ _ (sym (c .before .before .before .before .before .point-refusal .ensures) ∙ c .before .before .before .before .if1 .left) in (q .0, omega (arith, q .1))
@@ -59,16 +38,16 @@ pub block-of-spec : {M : Type 1} → statement M
 block-of-spec =
     tie.close
     (tie.spec
-    point-refusal-requires
+    (λ c κs. search needs)
     returns
-    cast-words
+    (λ c. search needs)
     block-state-requires
-    enum-told
-    enum-told-2
+    (λ c. search needs)
+    (λ c. search needs)
     words-per-block-requires
-    cast-t12
-    mul-t13
-    enum-told-3
+    (λ c. search needs)
+    (λ c. search needs)
+    (λ c. search needs)
     mixed-block-requires
     returns-2
     returns-3

@@ -9,18 +9,6 @@ use Rattle.range_bitset.proofs.Slots.{read-bit}
 use Rattle.range_bitset.proofs.RangeBitset.block_state.Statement.{statement}
 use Rattle.range_bitset.proofs.RangeBitset.block_state.Tie as tie
 
-top-full-slot-requires : tie.Need-top-full-slot-requires
-top-full-slot-requires c κs = search needs
-
-mul-has-bit : tie.Need-mul-has-bit
-mul-has-bit c = search needs
-
-shared-slice-read-has-bit : tie.Need-shared-slice-read-has-bit
-shared-slice-read-has-bit c = search needs
-
-has-bit-requires : tie.Need-has-bit-requires
-has-bit-requires c κs = search needs
-
 returns : tie.Need-returns
 unfolding stateOf
 returns c =
@@ -28,18 +16,6 @@ returns c =
     let e : bit (at (a .words) (a .storage .now) topFull) (a .block) ≡ true =
     read-bit (a .storage .now) (a .block) (c .before .before .before .top-full-slot .ensures) (c .before .has-bit .ensures) (c .if1 .taken) in
     rw e
-
-top-nonzero-slot-requires : tie.Need-top-nonzero-slot-requires
-top-nonzero-slot-requires c κs = search needs
-
-mul-has-bit-2 : tie.Need-mul-has-bit-2
-mul-has-bit-2 c = search needs
-
-shared-slice-read-has-bit-2 : tie.Need-shared-slice-read-has-bit-2
-shared-slice-read-has-bit-2 c = search needs
-
-has-bit-requires-2 : tie.Need-has-bit-requires-2
-has-bit-requires-2 c κs = search needs
 
 returns-2 : tie.Need-returns-2
 unfolding stateOf
@@ -65,14 +41,14 @@ pub block-state-spec : {M : Type 1} → statement M
 block-state-spec =
     tie.close
     (tie.spec
-    top-full-slot-requires
-    mul-has-bit
-    shared-slice-read-has-bit
-    has-bit-requires
+    (λ c κs. search needs)
+    (λ c. search needs)
+    (λ c. search needs)
+    (λ c κs. search needs)
     returns
-    top-nonzero-slot-requires
-    mul-has-bit-2
-    shared-slice-read-has-bit-2
-    has-bit-requires-2
+    (λ c κs. search needs)
+    (λ c. search needs)
+    (λ c. search needs)
+    (λ c κs. search needs)
     returns-2
     returns-3)

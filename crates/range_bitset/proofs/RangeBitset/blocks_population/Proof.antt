@@ -9,24 +9,6 @@ use Rattle.range_bitset.proofs.Walked.{ones-left, blocks-total}
 use Rattle.range_bitset.proofs.RangeBitset.blocks_population.Statement.{statement}
 use Rattle.range_bitset.proofs.RangeBitset.blocks_population.Tie as tie
 
-top-full-slot-requires : tie.Need-top-full-slot-requires
-top-full-slot-requires c κs = search needs
-
-top-nonzero-slot-requires : tie.Need-top-nonzero-slot-requires
-top-nonzero-slot-requires c κs = search needs
-
-mul-full : tie.Need-mul-full
-mul-full c = search needs
-
-shared-slice-read-full : tie.Need-shared-slice-read-full
-shared-slice-read-full c = search needs
-
-mul-mixed : tie.Need-mul-mixed
-mul-mixed c = search needs
-
-shared-slice-read-mixed : tie.Need-shared-slice-read-mixed
-shared-slice-read-mixed c = search needs
-
 mul-kept-populations : tie.Need-mul-kept-populations
 mul-kept-populations c =
     let a = c .before .before .before .before .before .args in
@@ -47,12 +29,12 @@ pub blocks-population-spec : {M : Type 1} → statement M
 blocks-population-spec =
     tie.close
     (tie.spec
-    top-full-slot-requires
-    top-nonzero-slot-requires
-    mul-full
-    shared-slice-read-full
-    mul-mixed
-    shared-slice-read-mixed
+    (λ c κs. search needs)
+    (λ c κs. search needs)
+    (λ c. search needs)
+    (λ c. search needs)
+    (λ c. search needs)
+    (λ c. search needs)
     mul-kept-populations
     kept-populations-requires
     returns)

@@ -8,30 +8,6 @@ use borrow.Author.Needs.{needs}
 use Rattle.range_bitset.proofs.RangeBitset.candidate_blocks.Statement.{statement}
 use Rattle.range_bitset.proofs.RangeBitset.candidate_blocks.Tie as tie
 
-blocks-requires : tie.Need-blocks-requires
-blocks-requires c κs = search needs
-
-span-requires : tie.Need-span-requires
-span-requires c κs = search needs
-
-top-nonzero-slot-requires : tie.Need-top-nonzero-slot-requires
-top-nonzero-slot-requires c κs = search needs
-
-mul-result : tie.Need-mul-result
-mul-result c = search needs
-
-shared-slice-read-result : tie.Need-shared-slice-read-result
-shared-slice-read-result c = search needs
-
-top-full-slot-requires : tie.Need-top-full-slot-requires
-top-full-slot-requires c κs = search needs
-
-mul-result-2 : tie.Need-mul-result-2
-mul-result-2 c = search needs
-
-shared-slice-read-result-2 : tie.Need-shared-slice-read-result-2
-shared-slice-read-result-2 c = search needs
-
 returns : tie.Need-returns
 returns c = top-ones _ _ (c .before .before .before .before .before .before .pre .most) _ (c .before .before .before .span .ok) (λ i. c .before .before .before .span .ensures i ∙ ap (λ (x : ℕ). within 0 x i) (c .before .before .before .before .blocks2 .ensures)) _ _ (c .before .before .if1 .taken) (read-at (c .before .before .before .before .before .before .args .storage .now) (c .before .top-nonzero-slot .ensures) refl)
 
@@ -42,13 +18,13 @@ pub candidate-blocks-spec : {M : Type 1} → statement M
 candidate-blocks-spec =
     tie.close
     (tie.spec
-    blocks-requires
-    span-requires
-    top-nonzero-slot-requires
-    mul-result
-    shared-slice-read-result
-    top-full-slot-requires
-    mul-result-2
-    shared-slice-read-result-2
+    (λ c κs. search needs)
+    (λ c κs. search needs)
+    (λ c κs. search needs)
+    (λ c. search needs)
+    (λ c. search needs)
+    (λ c κs. search needs)
+    (λ c. search needs)
+    (λ c. search needs)
     returns
     returns-2)

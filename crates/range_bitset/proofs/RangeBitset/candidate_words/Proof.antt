@@ -6,39 +6,6 @@ use borrow.Author.Needs.{needs}
 use Rattle.range_bitset.proofs.RangeBitset.candidate_words.Statement.{statement}
 use Rattle.range_bitset.proofs.RangeBitset.candidate_words.Tie as tie
 
-valid-words-requires : tie.Need-valid-words-requires
-valid-words-requires c κs = search needs
-
-block-state-requires : tie.Need-block-state-requires
-block-state-requires c κs = search needs
-
-enum-told : tie.Need-enum-told
-enum-told c = search needs
-
-enum-told-2 : tie.Need-enum-told-2
-enum-told-2 c = search needs
-
-enum-told-3 : tie.Need-enum-told-3
-enum-told-3 c = search needs
-
-nonzero-slot-requires : tie.Need-nonzero-slot-requires
-nonzero-slot-requires c κs = search needs
-
-mul-result : tie.Need-mul-result
-mul-result c = search needs
-
-shared-slice-read-result : tie.Need-shared-slice-read-result
-shared-slice-read-result c = search needs
-
-full-slot-requires : tie.Need-full-slot-requires
-full-slot-requires c κs = search needs
-
-mul-result-2 : tie.Need-mul-result-2
-mul-result-2 c = search needs
-
-shared-slice-read-result-2 : tie.Need-shared-slice-read-result-2
-shared-slice-read-result-2 c = search needs
-
 returns : tie.Need-returns
 returns c = empty-ones _ _ _ (c .before .before .before .before .before .before .pre .1) _ (c .if1 .taken) (sym (c .before .before .before .block-state .ensures) ∙ c .before .enum-told .given .1)
 
@@ -61,17 +28,17 @@ pub candidate-words-spec : {M : Type 1} → statement M
 candidate-words-spec =
     tie.close
     (tie.spec
-    valid-words-requires
-    block-state-requires
-    enum-told
-    enum-told-2
-    enum-told-3
-    nonzero-slot-requires
-    mul-result
-    shared-slice-read-result
-    full-slot-requires
-    mul-result-2
-    shared-slice-read-result-2
+    (λ c κs. search needs)
+    (λ c κs. search needs)
+    (λ c. search needs)
+    (λ c. search needs)
+    (λ c. search needs)
+    (λ c κs. search needs)
+    (λ c. search needs)
+    (λ c. search needs)
+    (λ c κs. search needs)
+    (λ c. search needs)
+    (λ c. search needs)
     returns
     returns-2
     returns-3

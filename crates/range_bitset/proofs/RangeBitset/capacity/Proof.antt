@@ -11,9 +11,6 @@ use borrow.Author.Needs.{needs}
 use Rattle.range_bitset.proofs.RangeBitset.capacity.Statement.{statement}
 use Rattle.range_bitset.proofs.RangeBitset.capacity.Tie as tie
 
-good-head-requires : tie.Need-good-head-requires
-good-head-requires c κs = search needs
-
 returns : tie.Need-returns
 unfolding ofHead
 returns c =
@@ -32,4 +29,4 @@ returns-2 c =
     rw e (ap Number (mul-comm _ 64))
 
 pub capacity-spec : {M : Type 1} → statement M
-capacity-spec = tie.close (tie.spec good-head-requires returns mul-t4 returns-2)
+capacity-spec = tie.close (tie.spec (λ c κs. search needs) returns mul-t4 returns-2)

@@ -6,26 +6,14 @@ use borrow.Author.Needs.{needs}
 use Rattle.range_bitset.proofs.RangeBitset.clear.Statement.{statement}
 use Rattle.range_bitset.proofs.RangeBitset.clear.Tie as tie
 
-refusal-requires : tie.Need-refusal-requires
-refusal-requires c κs = search needs
-
 returns : tie.Need-returns
 returns c = unaccepted _ _ _ _ _ (c .before .refusal .ensures) (c .if1 .taken) refl
-
-idle-requires : tie.Need-idle-requires
-idle-requires c κs = search needs
 
 returns-2 : tie.Need-returns-2
 returns-2 c = clear-idle _ _ (sym (c .before .before .before .refusal .ensures) ∙ c .before .before .if1 .left) (sym (c .before .idle .ensures) ∙ c .if2 .taken)
 
-cast-ensure-storage : tie.Need-cast-ensure-storage
-cast-ensure-storage c = search needs
-
 ensure-storage-requires : tie.Need-ensure-storage-requires
 ensure-storage-requires c κs = accepted _ _ (sym (c .before .before .before .before .refusal .ensures) ∙ c .before .before .before .if1 .left)
-
-same-length : tie.Need-same-length
-same-length c = search needs
 
 returns-3 : tie.Need-returns-3
 returns-3 c =
@@ -36,11 +24,11 @@ pub clear-spec : {M : Type 1} → statement M
 clear-spec =
     tie.close
     (tie.spec
-    refusal-requires
+    (λ c κs. search needs)
     returns
-    idle-requires
+    (λ c κs. search needs)
     returns-2
-    cast-ensure-storage
+    (λ c. search needs)
     ensure-storage-requires
-    same-length
+    (λ c. search needs)
     returns-3)

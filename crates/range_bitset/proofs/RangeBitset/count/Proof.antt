@@ -7,9 +7,6 @@ use Rattle.range_bitset.proofs.Queries.{declined, count-nothing, count-
 use Rattle.range_bitset.proofs.RangeBitset.count.Statement.{statement}
 use Rattle.range_bitset.proofs.RangeBitset.count.Tie as tie
 
-range-refusal-requires : tie.Need-range-refusal-requires
-range-refusal-requires c κs = search needs
-
 returns : tie.Need-returns
 returns c =
     declined _ _ _ _ _ (c .before .range-refusal .ensures) (c .if1 .taken) refl
@@ -21,9 +18,6 @@ returns-2 c =
 returns-3 : tie.Need-returns-3
 returns-3 c =
     count-empty-set _ _ _ _ (sym (c .before .before .before .range-refusal .ensures) ∙ c .before .before .if1 .left) (c .if3 .taken)
-
-cast-count-range : tie.Need-cast-count-range
-cast-count-range c = search needs
 
 count-range-requires : tie.Need-count-range-requires
 count-range-requires c κs =
@@ -39,10 +33,10 @@ pub count-spec : {M : Type 1} → statement M
 count-spec =
     tie.close
     (tie.spec
-    range-refusal-requires
+    (λ c κs. search needs)
     returns
     returns-2
     returns-3
-    cast-count-range
+    (λ c. search needs)
     count-range-requires
     returns-4)

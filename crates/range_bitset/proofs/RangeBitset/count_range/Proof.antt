@@ -7,60 +7,21 @@ use Rattle.range_bitset.proofs.CountPieces.{word-piece, LowWord, EndWor
 use Rattle.range_bitset.proofs.RangeBitset.count_range.Statement.{statement}
 use Rattle.range_bitset.proofs.RangeBitset.count_range.Tie as tie
 
-sub-last-word : tie.Need-sub-last-word
-sub-last-word c = search needs
-
-sub-span : tie.Need-sub-span
-sub-span c = search needs
-
-add-span : tie.Need-add-span
-add-span c = search needs
-
-span-requires : tie.Need-span-requires
-span-requires c κs = search needs
-
-masked-ones-requires : tie.Need-masked-ones-requires
-masked-ones-requires c κs = search needs
-
 returns : tie.Need-returns
 returns c =
     let a = c .before .before .before .before .args in
     word-piece (a .words) (a .storage .now) (a .start / 64) (c .before .span .result) (a .start % 64) ((a .end - 1) % 64 + 1) (a .start) (a .end) (c .masked-ones .result)
     (omega (arith, c .before .before .before .before .pre)) (c .before .span .ensures) (omega (arith, c .before .before .before .before .pre, c .before .before .if1 .taken)) (omega arith) (omega arith) (omega (arith, c .before .before .before .before .pre, c .before .before .if1 .taken)) (c .masked-ones .ensures .0)
 
-rest-requires : tie.Need-rest-requires
-rest-requires c κs = search needs
-
-masked-ones-requires-2 : tie.Need-masked-ones-requires-2
-masked-ones-requires-2 c κs = search needs
-
-add-whole-from : tie.Need-add-whole-from
-add-whole-from c = search needs
-
-add-whole-to : tie.Need-add-whole-to
-add-whole-to c = search needs
-
-span-requires-2 : tie.Need-span-requires-2
-span-requires-2 c κs = search needs
-
-masked-ones-requires-3 : tie.Need-masked-ones-requires-3
-masked-ones-requires-3 c κs = search needs
-
 add-population : tie.Need-add-population
 add-population c =
     let h : c .before .before .before .before .if2 .population ≤ 64 = ⊎-elim (λ w. omega (arith, w .3, w .2 .ensures .1)) (λ w. omega (arith, w .1)) (c .before .before .before .before .if2 .came) in
     omega (arith, h, c .before .masked-ones3 .ensures .1)
 
-sub-whole-to : tie.Need-sub-whole-to
-sub-whole-to c = search needs
-
 whole-words-population-requires : tie.Need-whole-words-population-requires
 whole-words-population-requires c κs =
     let a = c .before .before .before .before .args in
     (c .before .before .before .before .pre .0, ⊎-elim (λ w. omega (arith, w .5, c .before .before .before .before .pre)) (λ w. omega (arith, w .2, c .before .before .before .before .pre)) (c .if3 .came))
-
-wrapping-add-u32-requires : tie.Need-wrapping-add-u32-requires
-wrapping-add-u32-requires c κs = search needs
 
 returns-2 : tie.Need-returns-2
 returns-2 c =
@@ -79,20 +40,20 @@ pub count-range-spec : {M : Type 1} → statement M
 count-range-spec =
     tie.close
     (tie.spec
-    sub-last-word
-    sub-span
-    add-span
-    span-requires
-    masked-ones-requires
+    (λ c. search needs)
+    (λ c. search needs)
+    (λ c. search needs)
+    (λ c κs. search needs)
+    (λ c κs. search needs)
     returns
-    rest-requires
-    masked-ones-requires-2
-    add-whole-from
-    add-whole-to
-    span-requires-2
-    masked-ones-requires-3
+    (λ c κs. search needs)
+    (λ c κs. search needs)
+    (λ c. search needs)
+    (λ c. search needs)
+    (λ c κs. search needs)
+    (λ c κs. search needs)
     add-population
-    sub-whole-to
+    (λ c. search needs)
     whole-words-population-requires
-    wrapping-add-u32-requires
+    (λ c κs. search needs)
     returns-2)

@@ -8,26 +8,8 @@ use borrow.Author.Needs.{needs}
 use Rattle.range_bitset.proofs.RangeBitset.ensure_storage.Statement.{statement}
 use Rattle.range_bitset.proofs.RangeBitset.ensure_storage.Tie as tie
 
-top-nonzero-slot-requires : tie.Need-top-nonzero-slot-requires
-top-nonzero-slot-requires c κs = search needs
-
-top-full-slot-requires : tie.Need-top-full-slot-requires
-top-full-slot-requires c κs = search needs
-
-mul-storage : tie.Need-mul-storage
-mul-storage c = search needs
-
-slice-write-storage : tie.Need-slice-write-storage
-slice-write-storage c = search needs
-
-mul-storage-2 : tie.Need-mul-storage-2
-mul-storage-2 c = search needs
-
 slice-write-storage-2 : tie.Need-slice-write-storage-2
 slice-write-storage-2 c = simp length-set (omega arith)
-
-same-length : tie.Need-same-length
-same-length c = search needs
 
 returns : tie.Need-returns
 returns c =
@@ -40,12 +22,12 @@ pub ensure-storage-spec : {M : Type 1} → statement M
 ensure-storage-spec =
     tie.close
     (tie.spec
-    top-nonzero-slot-requires
-    top-full-slot-requires
-    mul-storage
-    slice-write-storage
-    mul-storage-2
+    (λ c κs. search needs)
+    (λ c κs. search needs)
+    (λ c. search needs)
+    (λ c. search needs)
+    (λ c. search needs)
     slice-write-storage-2
-    same-length
+    (λ c. search needs)
     returns
     returns-2)

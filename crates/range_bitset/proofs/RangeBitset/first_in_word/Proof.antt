@@ -6,12 +6,6 @@ use borrow.Author.Needs.{needs}
 use Rattle.range_bitset.proofs.RangeBitset.first_in_word.Statement.{statement}
 use Rattle.range_bitset.proofs.RangeBitset.first_in_word.Tie as tie
 
-word-bits-requires : tie.Need-word-bits-requires
-word-bits-requires c κs = search needs
-
-mul-result : tie.Need-mul-result
-mul-result c = search needs
-
 cast-result : tie.Need-cast-result
 cast-result c = omega (arith, trailing-le 64 (c .word-bits .result))
 
@@ -23,4 +17,4 @@ returns c = first-in-word _ _ _ _ _ (c .before .before .pre .1) (c .word-bits .e
 
 pub first-in-word-spec : {M : Type 1} → statement M
 first-in-word-spec =
-    tie.close (tie.spec word-bits-requires mul-result cast-result add-result returns)
+    tie.close (tie.spec (λ c κs. search needs) (λ c. search needs) cast-result add-result returns)

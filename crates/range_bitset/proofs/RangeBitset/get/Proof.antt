@@ -8,25 +8,16 @@ use mathlib.Core.Path.{refl, sym, _∙_}
 use Rattle.range_bitset.proofs.RangeBitset.get.Statement.{statement}
 use Rattle.range_bitset.proofs.RangeBitset.get.Tie as tie
 
-point-refusal-requires : tie.Need-point-refusal-requires
-point-refusal-requires c κs = search needs
-
 returns : tie.Need-returns
 returns c = declined _ _ _ _ _ (c .before .point-refusal .ensures) (c .if1 .taken) refl
 
 returns-2 : tie.Need-returns-2
 returns-2 c = get-fresh _ _ _ (sym (c .before .before .point-refusal .ensures) ∙ c .before .if1 .left) (not-true _ (c .if2 .taken))
 
-cast-word : tie.Need-cast-word
-cast-word c = search needs
-
 word-requires : tie.Need-word-requires
 word-requires c κs =
     let q = point-accepted _ _ _ (sym (c .before .before .before .point-refusal .ensures) ∙ c .before .before .if1 .left) in
     (q .0, omega arith)
-
-has-bit-requires : tie.Need-has-bit-requires
-has-bit-requires c κs = search needs
 
 returns-3 : tie.Need-returns-3
 returns-3 c =
@@ -36,10 +27,10 @@ pub get-spec : {M : Type 1} → statement M
 get-spec =
     tie.close
     (tie.spec
-    point-refusal-requires
+    (λ c κs. search needs)
     returns
     returns-2
-    cast-word
+    (λ c. search needs)
     word-requires
-    has-bit-requires
+    (λ c κs. search needs)
     returns-3)

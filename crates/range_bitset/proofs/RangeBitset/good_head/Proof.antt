@@ -8,23 +8,11 @@ use borrow.Author.Needs.{needs}
 use Rattle.range_bitset.proofs.RangeBitset.good_head.Statement.{statement}
 use Rattle.range_bitset.proofs.RangeBitset.good_head.Tie as tie
 
-cast-words : tie.Need-cast-words
-cast-words c = search needs
-
-allowed-requires : tie.Need-allowed-requires
-allowed-requires c κs = search needs
-
 returns : tie.Need-returns
 unfolding goodHead
 returns c =
     let e : allowed (c .before .before .before .args .head .words) ≡ false = sym (c .before .allowed .ensures) ∙ not-true _ (c .if1 .taken) in
     rw e
-
-cast-result : tie.Need-cast-result
-cast-result c = search needs
-
-mul-result : tie.Need-mul-result
-mul-result c = search needs
 
 returns-2 : tie.Need-returns-2
 unfolding goodHead
@@ -34,4 +22,4 @@ returns-2 c =
 
 pub good-head-spec : {M : Type 1} → statement M
 good-head-spec =
-    tie.close (tie.spec cast-words allowed-requires returns cast-result mul-result returns-2)
+    tie.close (tie.spec (λ c. search needs) (λ c κs. search needs) returns (λ c. search needs) (λ c. search needs) returns-2)

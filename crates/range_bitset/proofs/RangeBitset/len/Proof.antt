@@ -8,9 +8,6 @@ use borrow.Author.Needs.{needs}
 use Rattle.range_bitset.proofs.RangeBitset.len.Statement.{statement}
 use Rattle.range_bitset.proofs.RangeBitset.len.Tie as tie
 
-good-head-requires : tie.Need-good-head-requires
-good-head-requires c κs = search needs
-
 returns : tie.Need-returns
 unfolding ofHead
 returns c =
@@ -24,4 +21,4 @@ returns-2 c =
     rw e
 
 pub len-spec : {M : Type 1} → statement M
-len-spec = tie.close (tie.spec good-head-requires returns returns-2)
+len-spec = tie.close (tie.spec (λ c κs. search needs) returns returns-2)

@@ -8,13 +8,10 @@ use Rattle.range_bitset.proofs.Walked.{ones-right}
 use Rattle.range_bitset.proofs.RangeBitset.masked_ones.Statement.{statement}
 use Rattle.range_bitset.proofs.RangeBitset.masked_ones.Tie as tie
 
-word-requires : tie.Need-word-requires
-word-requires c κs = search needs
-
 returns : tie.Need-returns
 returns c =
     let a = c .before .before .args in
     (ap (λ (x : ℕ). ones (bitAnd x (a .mask))) (c .word .ensures), ones-right (c .word .result) (a .mask) (c .before .before .fits .mask .fits))
 
 pub masked-ones-spec : {M : Type 1} → statement M
-masked-ones-spec = tie.close (tie.spec word-requires returns)
+masked-ones-spec = tie.close (tie.spec (λ c κs. search needs) returns)

@@ -10,18 +10,6 @@ use Rattle.range_bitset.proofs.Slots.{read-bit}
 use Rattle.range_bitset.proofs.RangeBitset.mixed_word.Statement.{statement}
 use Rattle.range_bitset.proofs.RangeBitset.mixed_word.Tie as tie
 
-full-slot-requires : tie.Need-full-slot-requires
-full-slot-requires c κs = search needs
-
-mul-has-bit : tie.Need-mul-has-bit
-mul-has-bit c = search needs
-
-shared-slice-read-has-bit : tie.Need-shared-slice-read-has-bit
-shared-slice-read-has-bit c = search needs
-
-has-bit-requires : tie.Need-has-bit-requires
-has-bit-requires c κs = search needs
-
 returns : tie.Need-returns
 unfolding mixedRead
 returns c =
@@ -29,24 +17,6 @@ returns c =
     let e : bit (at (a .words) (a .storage .now) (full (a .word / 64))) (a .word % 64) ≡ true =
     read-bit (a .storage .now) (a .word % 64) (c .before .before .before .full-slot .ensures) (c .before .has-bit .ensures) (c .if1 .taken) in
     rw e
-
-nonzero-slot-requires : tie.Need-nonzero-slot-requires
-nonzero-slot-requires c κs = search needs
-
-mul-has-bit-2 : tie.Need-mul-has-bit-2
-mul-has-bit-2 c = search needs
-
-shared-slice-read-has-bit-2 : tie.Need-shared-slice-read-has-bit-2
-shared-slice-read-has-bit-2 c = search needs
-
-has-bit-requires-2 : tie.Need-has-bit-requires-2
-has-bit-requires-2 c κs = search needs
-
-mul-result : tie.Need-mul-result
-mul-result c = search needs
-
-shared-slice-read-result : tie.Need-shared-slice-read-result
-shared-slice-read-result c = search needs
 
 returns-2 : tie.Need-returns-2
 unfolding mixedRead
@@ -72,16 +42,16 @@ pub mixed-word-spec : {M : Type 1} → statement M
 mixed-word-spec =
     tie.close
     (tie.spec
-    full-slot-requires
-    mul-has-bit
-    shared-slice-read-has-bit
-    has-bit-requires
+    (λ c κs. search needs)
+    (λ c. search needs)
+    (λ c. search needs)
+    (λ c κs. search needs)
     returns
-    nonzero-slot-requires
-    mul-has-bit-2
-    shared-slice-read-has-bit-2
-    has-bit-requires-2
-    mul-result
-    shared-slice-read-result
+    (λ c κs. search needs)
+    (λ c. search needs)
+    (λ c. search needs)
+    (λ c κs. search needs)
+    (λ c. search needs)
+    (λ c. search needs)
     returns-2
     returns-3)

@@ -11,45 +11,6 @@ use Rattle.range_bitset.proofs.Walked.{ones-right, explicit-fits, mixed
 use Rattle.range_bitset.proofs.RangeBitset.mixed_words_population.Statement.{statement}
 use Rattle.range_bitset.proofs.RangeBitset.mixed_words_population.Tie as tie
 
-full-slot-requires : tie.Need-full-slot-requires
-full-slot-requires c κs = search needs
-
-nonzero-slot-requires : tie.Need-nonzero-slot-requires
-nonzero-slot-requires c κs = search needs
-
-mul-full : tie.Need-mul-full
-mul-full c = search needs
-
-shared-slice-read-full : tie.Need-shared-slice-read-full
-shared-slice-read-full c = search needs
-
-mul-explicit : tie.Need-mul-explicit
-mul-explicit c = search needs
-
-shared-slice-read-explicit : tie.Need-shared-slice-read-explicit
-shared-slice-read-explicit c = search needs
-
-mul-from : tie.Need-mul-from
-mul-from c = search needs
-
-words-per-block-requires : tie.Need-words-per-block-requires
-words-per-block-requires c κs = search needs
-
-add-to : tie.Need-add-to
-add-to c = search needs
-
-mul-stored-population : tie.Need-mul-stored-population
-mul-stored-population c = search needs
-
-sub-stored-population : tie.Need-sub-stored-population
-sub-stored-population c = search needs
-
-part-stored-population-start : tie.Need-part-stored-population-start
-part-stored-population-start c = search needs
-
-part-stored-population-end : tie.Need-part-stored-population-end
-part-stored-population-end c = search needs
-
 stored-population-requires : tie.Need-stored-population-requires
 stored-population-requires c κs =
     let a = c .before .before .before .before .before .before .before .args in
@@ -80,19 +41,19 @@ pub mixed-words-population-spec : {M : Type 1} → statement M
 mixed-words-population-spec =
     tie.close
     (tie.spec
-    full-slot-requires
-    nonzero-slot-requires
-    mul-full
-    shared-slice-read-full
-    mul-explicit
-    shared-slice-read-explicit
-    mul-from
-    words-per-block-requires
-    add-to
-    mul-stored-population
-    sub-stored-population
-    part-stored-population-start
-    part-stored-population-end
+    (λ c κs. search needs)
+    (λ c κs. search needs)
+    (λ c. search needs)
+    (λ c. search needs)
+    (λ c. search needs)
+    (λ c. search needs)
+    (λ c. search needs)
+    (λ c κs. search needs)
+    (λ c. search needs)
+    (λ c. search needs)
+    (λ c. search needs)
+    (λ c. search needs)
+    (λ c. search needs)
     stored-population-requires
     mul-result
     add-result

@@ -16,9 +16,6 @@ returns : tie.Need-returns
 unfolding newOf allowedCapacity
 returns c = rw (ne-eqb _ _ (c .if1 .taken))
 
-allowed-requires : tie.Need-allowed-requires
-allowed-requires c κs = search needs
-
 returns-2 : tie.Need-returns-2
 unfolding newOf allowedCapacity
 returns-2 c =
@@ -37,4 +34,4 @@ returns-3 c =
     rw (eq-eqb _ _ (c .before .before .if1 .left), e)
 
 pub new-spec : {M : Type 1} → statement M
-new-spec = tie.close (tie.spec returns allowed-requires returns-2 cast-t6 returns-3)
+new-spec = tie.close (tie.spec returns (λ c κs. search needs) returns-2 cast-t6 returns-3)

@@ -7,15 +7,6 @@ use borrow.Author.Needs.{needs}
 use Rattle.range_bitset.proofs.RangeBitset.next_after.Statement.{statement}
 use Rattle.range_bitset.proofs.RangeBitset.next_after.Tie as tie
 
-candidate-words-requires : tie.Need-candidate-words-requires
-candidate-words-requires c κs = search needs
-
-above-requires : tie.Need-above-requires
-above-requires c κs = search needs
-
-mul-next-word : tie.Need-mul-next-word
-mul-next-word c = search needs
-
 cast-next-word : tie.Need-cast-next-word
 cast-next-word c = omega (arith, trailing-le 64 (bitAnd (c .before .before .candidate-words .result) (c .before .above .result)))
 
@@ -31,15 +22,6 @@ returns : tie.Need-returns
 returns c =
     λ o. in-same-block _ _ _ _ (c .before .before .before .before .before .pre .1) _ _ (c .before .before .before .candidate-words .ensures) (c .before .before .above .ensures) (c .before .if1 .taken) o _ (c .first-in-word .ensures)
 
-candidate-blocks-requires : tie.Need-candidate-blocks-requires
-candidate-blocks-requires c κs = search needs
-
-above-requires-2 : tie.Need-above-requires-2
-above-requires-2 c κs = search needs
-
-mul-result : tie.Need-mul-result
-mul-result c = search needs
-
 returns-2 : tie.Need-returns-2
 returns-2 c =
     λ o. no-block _ _ _ _ (c .before .before .before .before .before .before .before .pre .1) (c .before .before .before .before .before .before .before .pre .0 .most) _ _ (c .before .before .candidate-blocks .ensures) (c .before .above2 .ensures) (c .if2 .taken) (past _ _ _ (c .before .before .before .before .before .before .before .args .value) (c .before .before .before .before .before .before .before .pre .1) _ _ (c .before .before .before .before .before .candidate-words .ensures) (c .before .before .before .before .above .ensures) (c .before .before .before .if1 .left) o)
@@ -50,9 +32,6 @@ cast-next-block c = omega (arith, trailing-le 64 (bitAnd (c .before .before .can
 candidate-words-requires-2 : tie.Need-candidate-words-requires-2
 candidate-words-requires-2 c κs =
     (c .before .before .before .before .before .before .before .pre .0, block-there _ _ _ _ (c .before .before .before .before .before .before .before .pre .1) (c .before .before .before .before .before .before .before .pre .0 .most) _ _ (c .before .before .candidate-blocks .ensures) (c .before .above2 .ensures) (c .if2 .left))
-
-mul-result-2 : tie.Need-mul-result-2
-mul-result-2 c = search needs
 
 returns-3 : tie.Need-returns-3
 returns-3 c =
@@ -80,20 +59,20 @@ pub next-after-spec : {M : Type 1} → statement M
 next-after-spec =
     tie.close
     (tie.spec
-    candidate-words-requires
-    above-requires
-    mul-next-word
+    (λ c κs. search needs)
+    (λ c κs. search needs)
+    (λ c. search needs)
     cast-next-word
     add-next-word
     first-in-word-requires
     returns
-    candidate-blocks-requires
-    above-requires-2
-    mul-result
+    (λ c κs. search needs)
+    (λ c κs. search needs)
+    (λ c. search needs)
     returns-2
     cast-next-block
     candidate-words-requires-2
-    mul-result-2
+    (λ c. search needs)
     returns-3
     mul-next-word-2
     cast-next-word-2

@@ -8,9 +8,6 @@ use borrow.Author.Needs.{needs}
 use Rattle.range_bitset.proofs.RangeBitset.next_one.Statement.{statement}
 use Rattle.range_bitset.proofs.RangeBitset.next_one.Tie as tie
 
-range-refusal-requires : tie.Need-range-refusal-requires
-range-refusal-requires c κs = search needs
-
 returns : tie.Need-returns
 returns c = declined _ _ _ _ _ (c .before .range-refusal .ensures) (c .if1 .taken) refl
 
@@ -20,16 +17,10 @@ returns-2 c = next-empty _ _ _ _ (sym (c .before .before .range-refusal .ensures
 returns-3 : tie.Need-returns-3
 returns-3 c = next-none _ _ _ _ (sym (c .before .before .before .range-refusal .ensures) ∙ c .before .before .if1 .left) (c .if3 .taken)
 
-cast-bits-from : tie.Need-cast-bits-from
-cast-bits-from c = search needs
-
 bits-from-requires : tie.Need-bits-from-requires
 bits-from-requires c κs =
     let q = range-accepted _ _ _ (sym (c .before .before .before .range-refusal .ensures) ∙ c .before .before .if1 .left) in
     (q .0, omega (arith, q .1, c .before .if2 .left))
-
-mul-below : tie.Need-mul-below
-mul-below c = search needs
 
 cast-below : tie.Need-cast-below
 cast-below c = omega (arith, trailing-le 64 (c .before .bits-from .result))
@@ -40,23 +31,14 @@ add-below c =
     let q = range-accepted (a .self) (a .storage .now) (a .end) (sym (c .before .before .before .before .before .range-refusal .ensures) ∙ c .before .before .before .before .if1 .left) in
     omega (arith, trailing-le 64 (c .before .bits-from .result), q .0 .most, q .1, c .before .before .before .if2 .left)
 
-below-requires : tie.Need-below-requires
-below-requires c κs = search needs
-
 returns-4 : tie.Need-returns-4
 returns-4 c =
     next-one _ _ _ _ (sym (c .before .before .before .before .before .before .range-refusal .ensures) ∙ c .before .before .before .before .before .if1 .left) _ (c .below .result) (c .before .before .before .if3 .left) (c .before .before .bits-from .ensures .some (c .before .if4 .taken)) (c .below .ensures)
-
-cast-next-after : tie.Need-cast-next-after
-cast-next-after c = search needs
 
 next-after-requires : tie.Need-next-after-requires
 next-after-requires c κs =
     let q = range-accepted _ _ _ (sym (c .before .before .before .before .before .range-refusal .ensures) ∙ c .before .before .before .before .if1 .left) in
     (q .0, omega (arith, q .1, c .before .before .before .if2 .left))
-
-below-requires-2 : tie.Need-below-requires-2
-below-requires-2 c κs = search needs
 
 returns-5 : tie.Need-returns-5
 returns-5 c =
@@ -66,18 +48,18 @@ pub next-one-spec : {M : Type 1} → statement M
 next-one-spec =
     tie.close
     (tie.spec
-    range-refusal-requires
+    (λ c κs. search needs)
     returns
     returns-2
     returns-3
-    cast-bits-from
+    (λ c. search needs)
     bits-from-requires
-    mul-below
+    (λ c. search needs)
     cast-below
     add-below
-    below-requires
+    (λ c κs. search needs)
     returns-4
-    cast-next-after
+    (λ c. search needs)
     next-after-requires
-    below-requires-2
+    (λ c κs. search needs)
     returns-5)

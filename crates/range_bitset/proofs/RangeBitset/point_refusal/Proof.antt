@@ -6,21 +6,12 @@ use borrow.Author.Needs.{needs}
 use Rattle.range_bitset.proofs.RangeBitset.point_refusal.Statement.{statement}
 use Rattle.range_bitset.proofs.RangeBitset.point_refusal.Tie as tie
 
-refusal-requires : tie.Need-refusal-requires
-refusal-requires c κs = search needs
-
 returns : tie.Need-returns
 unfolding pointRefusal
 returns c =
     let a = c .before .before .args in
     let e : storageRefusal (a .head) (a .len) ≡ c .before .refusal .result = sym (c .before .refusal .ensures) in
     rw (e, ne-eqb _ _ (c .if1 .taken))
-
-cast-words : tie.Need-cast-words
-cast-words c = search needs
-
-mul-if2 : tie.Need-mul-if2
-mul-if2 c = search needs
 
 returns-2 : tie.Need-returns-2
 unfolding pointRefusal
@@ -38,4 +29,4 @@ returns-3 c =
 
 pub point-refusal-spec : {M : Type 1} → statement M
 point-refusal-spec =
-    tie.close (tie.spec refusal-requires returns cast-words mul-if2 returns-2 returns-3)
+    tie.close (tie.spec (λ c κs. search needs) returns (λ c. search needs) (λ c. search needs) returns-2 returns-3)

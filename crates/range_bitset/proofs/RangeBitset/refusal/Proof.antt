@@ -10,31 +10,16 @@ use borrow.Author.Needs.{needs}
 use Rattle.range_bitset.proofs.RangeBitset.refusal.Statement.{statement}
 use Rattle.range_bitset.proofs.RangeBitset.refusal.Tie as tie
 
-good-head-requires : tie.Need-good-head-requires
-good-head-requires c κs = search needs
-
 returns : tie.Need-returns
 unfolding storageRefusal
 returns c =
     let e : goodHead (c .before .before .args .head) ≡ false = sym (c .before .good-head .ensures) ∙ not-true _ (c .if1 .taken) in
     rw e
 
-cast-words : tie.Need-cast-words
-cast-words c = search needs
-
 blocks-requires : tie.Need-blocks-requires
 blocks-requires c κs =
     let e : goodHead (c .before .before .before .args .head) ≡ true = sym (c .before .before .good-head .ensures) ∙ not-false _ (c .before .if1 .left) in
     good-bounds _ e .1
-
-mul-if2 : tie.Need-mul-if2
-mul-if2 c = search needs
-
-add-if2 : tie.Need-add-if2
-add-if2 c = search needs
-
-add-if2-2 : tie.Need-add-if2-2
-add-if2-2 c = search needs
 
 returns-2 : tie.Need-returns-2
 unfolding storageRefusal
@@ -54,12 +39,12 @@ pub refusal-spec : {M : Type 1} → statement M
 refusal-spec =
     tie.close
     (tie.spec
-    good-head-requires
+    (λ c κs. search needs)
     returns
-    cast-words
+    (λ c. search needs)
     blocks-requires
-    mul-if2
-    add-if2
-    add-if2-2
+    (λ c. search needs)
+    (λ c. search needs)
+    (λ c. search needs)
     returns-2
     returns-3)

@@ -4,12 +4,6 @@ use borrow.Author.Needs.{needs}
 use Rattle.range_bitset.proofs.RangeBitset.shifted.Statement.{statement}
 use Rattle.range_bitset.proofs.RangeBitset.shifted.Tie as tie
 
-wrapping-add-u32-requires : tie.Need-wrapping-add-u32-requires
-wrapping-add-u32-requires c κs = search needs
-
-wrapping-sub-u32-requires : tie.Need-wrapping-sub-u32-requires
-wrapping-sub-u32-requires c κs = search needs
-
 returns : tie.Need-returns
 returns c = rw (c .before .if1 .taken) (omega arith)
 
@@ -18,4 +12,4 @@ returns-2 c = rw (c .before .if1 .left) (omega arith)
 
 pub shifted-spec : {M : Type 1} → statement M
 shifted-spec =
-    tie.close (tie.spec wrapping-add-u32-requires wrapping-sub-u32-requires returns returns-2)
+    tie.close (tie.spec (λ c κs. search needs) (λ c κs. search needs) returns returns-2)

@@ -7,14 +7,8 @@ use borrow.Author.Needs.{needs}
 use Rattle.range_bitset.proofs.RangeBitset.top_masks.Statement.{statement}
 use Rattle.range_bitset.proofs.RangeBitset.top_masks.Tie as tie
 
-refusal-requires : tie.Need-refusal-requires
-refusal-requires c κs = search needs
-
 returns : tie.Need-returns
 returns c = hides _ _ _ _ (c .before .refusal .ensures) (c .if1 .taken)
-
-cast-words : tie.Need-cast-words
-cast-words c = search needs
 
 top-nonzero-slot-requires : tie.Need-top-nonzero-slot-requires
 top-nonzero-slot-requires c κs = accepted (c .before .before .before .before .args .self) (c .before .before .before .before .args .storage .now) (sym (c .before .before .refusal .ensures) ∙ c .before .if1 .left) .most
@@ -22,14 +16,8 @@ top-nonzero-slot-requires c κs = accepted (c .before .before .before .before .a
 top-full-slot-requires : tie.Need-top-full-slot-requires
 top-full-slot-requires c κs = accepted (c .before .before .before .before .before .args .self) (c .before .before .before .before .before .args .storage .now) (sym (c .before .before .before .refusal .ensures) ∙ c .before .before .if1 .left) .most
 
-mul-t7 : tie.Need-mul-t7
-mul-t7 c = search needs
-
 shared-slice-read-t10 : tie.Need-shared-slice-read-t10
 shared-slice-read-t10 c = omega (arith, c .before .before .top-nonzero-slot .ensures, accepted (c .before .before .before .before .before .before .before .args .self) (c .before .before .before .before .before .before .before .args .storage .now) (sym (c .before .before .before .before .before .refusal .ensures) ∙ c .before .before .before .before .if1 .left) .long)
-
-mul-t11 : tie.Need-mul-t11
-mul-t11 c = search needs
 
 shared-slice-read-t13 : tie.Need-shared-slice-read-t13
 shared-slice-read-t13 c = omega (arith, c .before .before .top-full-slot .ensures, accepted (c .before .before .before .before .before .before .before .before .args .self) (c .before .before .before .before .before .before .before .before .args .storage .now) (sym (c .before .before .before .before .before .before .refusal .ensures) ∙ c .before .before .before .before .before .if1 .left) .long)
@@ -52,14 +40,14 @@ pub top-masks-spec : {M : Type 1} → statement M
 top-masks-spec =
     tie.close
     (tie.spec
-    refusal-requires
+    (λ c κs. search needs)
     returns
-    cast-words
+    (λ c. search needs)
     top-nonzero-slot-requires
     top-full-slot-requires
-    mul-t7
+    (λ c. search needs)
     shared-slice-read-t10
-    mul-t11
+    (λ c. search needs)
     shared-slice-read-t13
     blocks-requires
     span-requires

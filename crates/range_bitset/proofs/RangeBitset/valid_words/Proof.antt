@@ -9,12 +9,6 @@ use Rattle.bits.proofs.Bits.{single}
 use Rattle.range_bitset.proofs.RangeBitset.valid_words.Statement.{statement}
 use Rattle.range_bitset.proofs.RangeBitset.valid_words.Tie as tie
 
-words-per-block-requires : tie.Need-words-per-block-requires
-words-per-block-requires c κs = search needs
-
-shl-result : tie.Need-shl-result
-shl-result c = search needs
-
 sub-result : tie.Need-sub-result
 sub-result c =
     rw (single 64 _ (c .if1 .left)) (pow-pos (c .before .words-per-block .result))
@@ -30,4 +24,4 @@ returns-2 c =
 
 pub valid-words-spec : {M : Type 1} → statement M
 valid-words-spec =
-    tie.close (tie.spec words-per-block-requires shl-result sub-result returns returns-2)
+    tie.close (tie.spec (λ c κs. search needs) (λ c. search needs) sub-result returns returns-2)

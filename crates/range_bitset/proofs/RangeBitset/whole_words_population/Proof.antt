@@ -16,18 +16,6 @@ returns c =
     let a = c .before .before .args in
     no-piece (a .words) (a .storage .now) (64 * a .from) (64 * a .to) 0 (omega (arith, c .if1 .taken)) refl
 
-sub-last-block : tie.Need-sub-last-block
-sub-last-block c = search needs
-
-sub-span : tie.Need-sub-span
-sub-span c = search needs
-
-add-span : tie.Need-add-span
-add-span c = search needs
-
-span-requires : tie.Need-span-requires
-span-requires c κs = search needs
-
 words-population-requires : tie.Need-words-population-requires
 words-population-requires c κs =
     let a = c .before .before .before .before .args in
@@ -40,23 +28,11 @@ returns-2 c =
     words-piece (a .words) (a .storage .now) (a .from / 64) (c .before .span .result) (a .from % 64) ((a .to - 1) % 64 + 1) (64 * a .from) (64 * a .to) (c .words-population .result)
     (c .before .span .ensures) (omega (arith, c .before .before .before .if1 .left, c .before .before .if2 .taken)) (omega (arith, c .before .before .before .before .before .pre, c .before .before .before .if1 .left, c .before .before .if2 .taken)) (omega arith) (omega (arith, c .before .before .before .if1 .left, c .before .before .if2 .taken)) (c .words-population .ensures .0)
 
-rest-requires : tie.Need-rest-requires
-rest-requires c κs = search needs
-
 words-population-requires-2 : tie.Need-words-population-requires-2
 words-population-requires-2 c κs =
     let a = c .before .before .before .before .before .args in
     let q : 64 ≤ wordsOf (a .words) (a .from / 64) = omega (arith, c .before .before .before .before .before .pre, c .before .before .before .if1 .left, c .before .before .if2 .left) in
     (c .before .before .before .before .before .pre .0, omega (arith, c .before .before .before .before .before .pre, c .before .before .before .if1 .left), spans-lt (c .rest .result) (a .from % 64) 64 _ (c .rest .ok) (c .rest .ensures) q)
-
-add-blocks-from : tie.Need-add-blocks-from
-add-blocks-from c = search needs
-
-add-blocks-to : tie.Need-add-blocks-to
-add-blocks-to c = search needs
-
-span-requires-2 : tie.Need-span-requires-2
-span-requires-2 c κs = search needs
 
 words-population-requires-3 : tie.Need-words-population-requires-3
 words-population-requires-3 c κs =
@@ -69,9 +45,6 @@ add-population c =
     let h : c .before .before .before .before .if3 .population ≤ 4096 = ⊎-elim (λ w. omega (arith, w .3, w .2 .ensures .1)) (λ w. omega (arith, w .1)) (c .before .before .before .before .if3 .came) in
     omega (arith, h, c .before .words-population3 .ensures .1)
 
-sub-blocks-to : tie.Need-sub-blocks-to
-sub-blocks-to c = search needs
-
 span-requires-3 : tie.Need-span-requires-3
 span-requires-3 c κs =
     let a = c .before .before .before .before .before .before .args in
@@ -83,9 +56,6 @@ blocks-population-requires c κs =
     let a = c .before .before .before .before .before .before .before .args in
     let h : 64 * c .before .before .if4 .blocks-to ≤ a .to = ⊎-elim (λ w. omega (arith, w .5)) (λ w. omega (arith, w .2, w .0 .left, c .before .before .before .before .before .if1 .left)) (c .before .before .if4 .came) in
     (c .before .before .before .before .before .before .before .pre .0, spans-lt (c .span3 .result) (c .before .before .before .if3 .blocks-from) (c .before .before .if4 .blocks-to) _ (c .span3 .ok) (c .span3 .ensures) (omega (arith, h, c .before .before .before .before .before .before .before .pre)))
-
-wrapping-add-u32-requires : tie.Need-wrapping-add-u32-requires
-wrapping-add-u32-requires c κs = search needs
 
 returns-3 : tie.Need-returns-3
 returns-3 c =
@@ -120,22 +90,22 @@ whole-words-population-spec =
     tie.close
     (tie.spec
     returns
-    sub-last-block
-    sub-span
-    add-span
-    span-requires
+    (λ c. search needs)
+    (λ c. search needs)
+    (λ c. search needs)
+    (λ c κs. search needs)
     words-population-requires
     returns-2
-    rest-requires
+    (λ c κs. search needs)
     words-population-requires-2
-    add-blocks-from
-    add-blocks-to
-    span-requires-2
+    (λ c. search needs)
+    (λ c. search needs)
+    (λ c κs. search needs)
     words-population-requires-3
     add-population
-    sub-blocks-to
+    (λ c. search needs)
     span-requires-3
     blocks-population-requires
-    wrapping-add-u32-requires
+    (λ c κs. search needs)
     returns-3
     returns-4)

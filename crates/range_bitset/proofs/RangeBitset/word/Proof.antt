@@ -7,21 +7,6 @@ use Rattle.range_bitset.specs.Read.{wordRead, stateOf}
 use Rattle.range_bitset.proofs.RangeBitset.word.Statement.{statement}
 use Rattle.range_bitset.proofs.RangeBitset.word.Tie as tie
 
-block-state-requires : tie.Need-block-state-requires
-block-state-requires c κs = search needs
-
-enum-told : tie.Need-enum-told
-enum-told c = search needs
-
-enum-told-2 : tie.Need-enum-told-2
-enum-told-2 c = search needs
-
-enum-told-3 : tie.Need-enum-told-3
-enum-told-3 c = search needs
-
-mixed-word-requires : tie.Need-mixed-word-requires
-mixed-word-requires c κs = search needs
-
 returns : tie.Need-returns
 unfolding wordRead
 returns c =
@@ -47,11 +32,11 @@ pub word-spec : {M : Type 1} → statement M
 word-spec =
     tie.close
     (tie.spec
-    block-state-requires
-    enum-told
-    enum-told-2
-    enum-told-3
-    mixed-word-requires
+    (λ c κs. search needs)
+    (λ c. search needs)
+    (λ c. search needs)
+    (λ c. search needs)
+    (λ c κs. search needs)
     returns
     returns-2
     returns-3)

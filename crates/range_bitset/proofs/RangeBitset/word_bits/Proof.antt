@@ -6,9 +6,6 @@ use borrow.Author.Needs.{needs}
 use Rattle.range_bitset.proofs.RangeBitset.word_bits.Statement.{statement}
 use Rattle.range_bitset.proofs.RangeBitset.word_bits.Tie as tie
 
-word-requires : tie.Need-word-requires
-word-requires c κs = search needs
-
 returns : tie.Need-returns
 returns c = rw (c .if1 .taken) (c .before .word .ensures)
 
@@ -16,4 +13,4 @@ returns-2 : tie.Need-returns-2
 returns-2 c = rw (c .if1 .left) (ap (λ (x : ℕ). ALL - x) (c .before .word .ensures))
 
 pub word-bits-spec : {M : Type 1} → statement M
-word-bits-spec = tie.close (tie.spec word-requires returns returns-2)
+word-bits-spec = tie.close (tie.spec (λ c κs. search needs) returns returns-2)

@@ -7,24 +7,9 @@ use Rattle.range_bitset.proofs.Walked.{words-empty, words-full, words-m
 use Rattle.range_bitset.proofs.RangeBitset.words_population.Statement.{statement}
 use Rattle.range_bitset.proofs.RangeBitset.words_population.Tie as tie
 
-block-state-requires : tie.Need-block-state-requires
-block-state-requires c κs = search needs
-
-enum-told : tie.Need-enum-told
-enum-told c = search needs
-
-enum-told-2 : tie.Need-enum-told-2
-enum-told-2 c = search needs
-
 mul-result : tie.Need-mul-result
 mul-result c =
     omega (arith, ones-le 64 (c .before .before .before .before .args .mask) (c .before .before .before .before .fits .mask .fits))
-
-enum-told-3 : tie.Need-enum-told-3
-enum-told-3 c = search needs
-
-mixed-words-population-requires : tie.Need-mixed-words-population-requires
-mixed-words-population-requires c κs = search needs
 
 returns : tie.Need-returns
 returns c =
@@ -42,12 +27,12 @@ pub words-population-spec : {M : Type 1} → statement M
 words-population-spec =
     tie.close
     (tie.spec
-    block-state-requires
-    enum-told
-    enum-told-2
+    (λ c κs. search needs)
+    (λ c. search needs)
+    (λ c. search needs)
     mul-result
-    enum-told-3
-    mixed-words-population-requires
+    (λ c. search needs)
+    (λ c κs. search needs)
     returns
     returns-2
     returns-3)

@@ -5,44 +5,8 @@ use borrow.Author.Needs.{needs}
 use Rattle.range_bitset.proofs.RangeBitset.write_masks.Statement.{statement}
 use Rattle.range_bitset.proofs.RangeBitset.write_masks.Tie as tie
 
-nonzero-slot-requires : tie.Need-nonzero-slot-requires
-nonzero-slot-requires c κs = search needs
-
-full-slot-requires : tie.Need-full-slot-requires
-full-slot-requires c κs = search needs
-
-mul-combined : tie.Need-mul-combined
-mul-combined c = search needs
-
-slice-read-combined : tie.Need-slice-read-combined
-slice-read-combined c = search needs
-
-combined-requires : tie.Need-combined-requires
-combined-requires c κs = search needs
-
-mul-combined-2 : tie.Need-mul-combined-2
-mul-combined-2 c = search needs
-
-slice-read-combined-2 : tie.Need-slice-read-combined-2
-slice-read-combined-2 c = search needs
-
-combined-requires-2 : tie.Need-combined-requires-2
-combined-requires-2 c κs = search needs
-
-mul-storage : tie.Need-mul-storage
-mul-storage c = search needs
-
-slice-write-storage : tie.Need-slice-write-storage
-slice-write-storage c = search needs
-
-mul-storage-2 : tie.Need-mul-storage-2
-mul-storage-2 c = search needs
-
 slice-write-storage-2 : tie.Need-slice-write-storage-2
 slice-write-storage-2 c = simp length-set (omega arith)
-
-same-length : tie.Need-same-length
-same-length c = search needs
 
 returns : tie.Need-returns
 returns c = rw (c .combined2 .ensures, c .before .before .combined .ensures, c .before .before .before .before .full-slot .ensures, c .before .before .before .before .before .nonzero-slot .ensures)
@@ -51,17 +15,17 @@ pub write-masks-spec : {M : Type 1} → statement M
 write-masks-spec =
     tie.close
     (tie.spec
-    nonzero-slot-requires
-    full-slot-requires
-    mul-combined
-    slice-read-combined
-    combined-requires
-    mul-combined-2
-    slice-read-combined-2
-    combined-requires-2
-    mul-storage
-    slice-write-storage
-    mul-storage-2
+    (λ c κs. search needs)
+    (λ c κs. search needs)
+    (λ c. search needs)
+    (λ c. search needs)
+    (λ c κs. search needs)
+    (λ c. search needs)
+    (λ c. search needs)
+    (λ c κs. search needs)
+    (λ c. search needs)
+    (λ c. search needs)
+    (λ c. search needs)
     slice-write-storage-2
-    same-length
+    (λ c. search needs)
     returns)

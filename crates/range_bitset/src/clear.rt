@@ -1,0 +1,38 @@
+// Clearing every position. Assumes nothing.
+ghost use Rattle.range_bitset.specs.Entries.{ClearEnsures};
+use crate::Assigned;
+use crate::Counted;
+use crate::RangeBitset;
+
+impl RangeBitset {
+    // Clear every position; answers how many there were.
+    pub fn clear(self, storage: &mut [u64]) -> Assigned
+        ensures { λ r. ⌜ ClearEnsures self (now (storage .entry)) r (now (storage .exit)) ⌝ }
+    {
+        let refused = Self::refusal(self, storage.len());
+        if refused != 0 {
+            return Assigned {
+                answer: Counted::Refused(refused),
+                head: self,
+            };
+        }
+        let words = self.words;
+        let len = self.len;
+        let allocated = self.allocated;
+        if Self::idle(false, len) {
+            return Assigned {
+                answer: Counted::Count(0),
+                head: self,
+            };
+        }
+        Self::ensure_storage(storage, words as usize, false);
+        Assigned {
+            answer: Counted::Count(len),
+            head: RangeBitset {
+                words,
+                len: 0,
+                allocated,
+            },
+        }
+    }
+}
