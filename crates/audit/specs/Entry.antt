@@ -4,7 +4,8 @@ use mathlib.Core.Logic.{_⊎_}
 use mathlib.Core.List.{List}
 use Prim.Native.Nat.{ℕ}
 use lib.ListN.{length}
-use Rattle.range_bitset.specs.Answers.{Number, ofTested, refused, storageRefusal}
+use Rattle.positions.specs.Replies.{number, refused}
+use Rattle.range_bitset.specs.Answers.{ofTested, storageRefusal}
 use Rattle.range_bitset.specs.declared.RangeBitset.{RangeBitset}
 use Rattle.range_bitset.specs.declared.Tested.{Tested}
 use Rattle.audit.specs.Sound.{Sound}
@@ -13,4 +14,4 @@ use Rattle.audit.specs.Sound.{Sound}
 pub record AuditEnsures (h : RangeBitset) (st : List ℕ) (r : Tested) : Type 0 where
   pub refuses : refused (ofTested r) ≡ storageRefusal h (length st)
   pub tells : storageRefusal h (length st) ≡ 0
-      → ((ofTested r ≡ Number 1) × Sound h st) ⊎ ((ofTested r ≡ Number 0) × (Sound h st → ⊥))
+      → ((ofTested r ≡ number 1) × Sound h st) ⊎ ((ofTested r ≡ number 0) × (Sound h st → ⊥))

@@ -13,13 +13,13 @@ use lib.Arith.{lt-one, le-zero, digits-div, digits-mod}
 use lib.Bits.{bitAnd, and-le-r}
 use lib.Count.{ones, ones-step, ones-le, trailingZeros, trailing-le, under}
 use Rattle.bits.specs.Bit.{bit}
-use Rattle.positions.specs.Positions.{kept, countFrom}
+use Rattle.positions.specs.Positions.{onlyIf, countFrom}
 use Rattle.bits.proofs.Bits.{two-pos, bit-0, bit-suc, bit-and, bit-none}
 use Rattle.positions.proofs.Counts.{countFrom-zero, countFrom-first, countFrom-shift, countFrom-ext}
 
 -- ---- `count_ones`
 
-digit-kept : (d : ℕ) → d < 2 → d ≡ kept (eqb d 1) 1
+digit-kept : (d : ℕ) → d < 2 → d ≡ onlyIf (eqb d 1) 1
 digit-kept zero h = refl
 digit-kept (suc zero) h = refl
 digit-kept (suc (suc d)) h = absurd (not-suc-le-zero (le-of-suc-le-suc (le-of-suc-le-suc h)))
@@ -28,7 +28,7 @@ pub ones-countFrom : (w n : ℕ) → n < 2 ^ w → ones n ≡ countFrom (bit n) 
 ones-countFrom zero n h = le-zero (ones-le zero n h) ∙ sym (countFrom-zero (bit n) 0)
 ones-countFrom (suc w) n h =
     ones-step n
-    ∙ ap₂ _+_ (digit-kept (n % 2) (mod-lt n two-pos) ∙ ap (λ (b : Bool). kept b 1) (sym (bit-0 n)))
+    ∙ ap₂ _+_ (digit-kept (n % 2) (mod-lt n two-pos) ∙ ap (λ (b : Bool). onlyIf b 1) (sym (bit-0 n)))
     (ones-countFrom w (n / 2) (omega (arith, div-add-mod' n 2, pow-suc 2 w))
     ∙ countFrom-ext (bit (n / 2)) (λ i. bit n (1 + i)) 0 w (λ i l k. sym (bit-suc n i) ∙ ap (bit n) (sym (one-add i)))
     ∙ sym (countFrom-shift (bit n) 1 0 w))

@@ -9,8 +9,8 @@ use Prim.Native.Nat.{ℕ, _≤_}
 use native.Mathlib.Omega.{arith}
 use lib.ListN.{length}
 use Rattle.positions.specs.Positions.{Positions, one}
-use Rattle.range_bitset.specs.Answers.{Reply, refused, goodHead, headRefusal, storageRefusal, rangeRefusal, pointRefusal}
-use Rattle.range_bitset.specs.Answers as reply
+use Rattle.positions.specs.Replies.{Reply, number, refusal, refused}
+use Rattle.range_bitset.specs.Answers.{ofCounted, ofTested, ofFound, goodHead, headRefusal, storageRefusal, rangeRefusal, pointRefusal}
 use Rattle.range_bitset.specs.Entries.{Changes, ofHead}
 use Rattle.range_bitset.specs.declared.RangeBitset.{RangeBitset}
 use Rattle.range_bitset.specs.declared.Made.{Made}
@@ -20,74 +20,74 @@ use Rattle.range_bitset.specs.declared.Counted.the-variants as counted
 use Rattle.range_bitset.specs.declared.Tested.{Tested}
 use Rattle.range_bitset.specs.declared.Tested.the-variants as tested
 use Rattle.range_bitset.specs.declared.Found.{Found}
-use Rattle.range_bitset.specs.declared.Found.the-variants as place
+use Rattle.range_bitset.specs.declared.Found.the-variants as found
 use Rattle.capi.specs.declared.KladoSet.{KladoSet}
 use Rattle.capi.specs.declared.KladoSetAnswer.{KladoSetAnswer}
 use Rattle.capi.specs.declared.KladoAnswer.{KladoAnswer}
 use Rattle.capi.specs.declared.KladoFound.{KladoFound}
-use Rattle.capi.specs.Told.{setOf, headOf, withHead, ofMade, ofCounted, ofTested, ofFound, CapacityTold, LenTold, GetTold, SetTold, AssignTold, CountTold, NextTold, ClearTold, AuditTold}
+use Rattle.capi.specs.Told.{setOf, headOf, withHead, toldMade, toldCounted, toldTested, toldFound, CapacityTold, LenTold, GetTold, SetTold, AssignTold, CountTold, NextTold, ClearTold, AuditTold}
 
 -- ---- the numbers of one answer
 
-pub counted-refused : (a : Counted) → ofCounted a .refused ≡ refused (reply.ofCounted a)
+pub counted-refused : (a : Counted) → toldCounted a .refused ≡ refused (ofCounted a)
 counted-refused (counted.Count n) = refl
 counted-refused (counted.Refused k) = refl
 
-tested-refused : (a : Tested) → ofTested a .refused ≡ refused (reply.ofTested a)
+tested-refused : (a : Tested) → toldTested a .refused ≡ refused (ofTested a)
 tested-refused (tested.Is b) = refl
 tested-refused (tested.Refused k) = refl
 
-found-refused : (a : Found) → ofFound a .refused ≡ refused (reply.ofPlace a)
-found-refused (place.At i) = refl
-found-refused place.Nothing = refl
-found-refused (place.Refused k) = refl
+found-refused : (a : Found) → toldFound a .refused ≡ refused (ofFound a)
+found-refused (found.At i) = refl
+found-refused found.Nothing = refl
+found-refused (found.Refused k) = refl
 
-pub counted-bare : (a : Counted) → ofCounted a .refused ≢ 0 → ofCounted a .value ≡ 0
+pub counted-bare : (a : Counted) → toldCounted a .refused ≢ 0 → toldCounted a .value ≡ 0
 counted-bare (counted.Count n) z = absurd (z refl)
 counted-bare (counted.Refused k) z = refl
 
-pub tested-bare : (a : Tested) → ofTested a .refused ≢ 0 → ofTested a .value ≡ 0
+pub tested-bare : (a : Tested) → toldTested a .refused ≢ 0 → toldTested a .value ≡ 0
 tested-bare (tested.Is b) z = absurd (z refl)
 tested-bare (tested.Refused k) z = refl
 
-pub found-bare : (a : Found) → ofFound a .refused ≢ 0 → ofFound a .found ≡ 0
-found-bare (place.At i) z = absurd (z refl)
-found-bare place.Nothing z = refl
-found-bare (place.Refused k) z = refl
+pub found-bare : (a : Found) → toldFound a .refused ≢ 0 → toldFound a .found ≡ 0
+found-bare (found.At i) z = absurd (z refl)
+found-bare found.Nothing z = refl
+found-bare (found.Refused k) z = refl
 
 -- 0 or 1
 one-most : (b : Bool) → one b ≤ 1
 one-most true = omega arith
 one-most false = omega arith
 
-pub tested-most : (a : Tested) → ofTested a .value ≤ 1
+pub tested-most : (a : Tested) → toldTested a .value ≤ 1
 tested-most (tested.Is b) = one-most b
 tested-most (tested.Refused k) = omega arith
 
 -- no position, no number
-pub found-none : (a : Found) → ofFound a .found ≡ 0 → ofFound a .at ≡ 0
-found-none (place.At i) z = absurd (omega arith)
-found-none place.Nothing z = refl
-found-none (place.Refused k) z = refl
+pub found-none : (a : Found) → toldFound a .found ≡ 0 → toldFound a .at ≡ 0
+found-none (found.At i) z = absurd (omega arith)
+found-none found.Nothing z = refl
+found-none (found.Refused k) z = refl
 
 -- ---- a new set
 
-pub made-value : (a : Made) → ofMade a .value ≡ 0
+pub made-value : (a : Made) → toldMade a .value ≡ 0
 made-value (made.Head h) = refl
 made-value (made.Refused k) = refl
 
-pub made-bare : (a : Made) → ofMade a .refused ≢ 0 → ofMade a .head ≡ record { words = 0; len = 0; allocated = false }
+pub made-bare : (a : Made) → toldMade a .refused ≢ 0 → toldMade a .head ≡ record { words = 0; len = 0; allocated = false }
 made-bare (made.Head h) z = absurd (z refl)
 made-bare (made.Refused k) z = refl
 
 -- ---- the calls that ask: the refusal
 
 -- of a head alone
-bare-head : (g : Bool) (n : ℕ) → refused (cond g (reply.Number n) (reply.Refusal 2)) ≡ cond g 0 2
+bare-head : (g : Bool) (n : ℕ) → refused (cond g (number n) (refusal 2)) ≡ cond g 0 2
 bare-head true n = refl
 bare-head false n = refl
 
-head-refuses : (h : RangeBitset) (n : ℕ) (a : Counted) (c : KladoAnswer) → reply.ofCounted a ≡ ofHead h n → c ≡ ofCounted a
+head-refuses : (h : RangeBitset) (n : ℕ) (a : Counted) (c : KladoAnswer) → ofCounted a ≡ ofHead h n → c ≡ toldCounted a
     → c .refused ≡ headRefusal h
 unfolding ofHead headRefusal
 head-refuses h n a c p t =

@@ -15,7 +15,7 @@ use Rattle.range_bitset.specs.declared.Counted.the-variants as counted
 use Rattle.range_bitset.specs.declared.Tested.{Tested}
 use Rattle.range_bitset.specs.declared.Tested.the-variants as tested
 use Rattle.range_bitset.specs.declared.Found.{Found}
-use Rattle.range_bitset.specs.declared.Found.the-variants as place
+use Rattle.range_bitset.specs.declared.Found.the-variants as found
 use Rattle.range_bitset.specs.declared.Assigned.{Assigned}
 use Rattle.range_bitset.specs.declared.Updated.{Updated}
 use Rattle.capi.specs.declared.KladoSet.{KladoSet}
@@ -33,32 +33,32 @@ headOf h = record { words = h .words; len = h .len; allocated = h .allocated }
 
 -- ---- answers: a refusal has its number, and 0 elsewhere
 
-abbrev pub ofMade : Made → KladoSetAnswer
-ofMade (made.Head h) = record { refused = 0; value = 0; head = headOf h }
-ofMade (made.Refused k) = record { refused = k; value = 0; head = record { words = 0; len = 0; allocated = false } }
+abbrev pub toldMade : Made → KladoSetAnswer
+toldMade (made.Head h) = record { refused = 0; value = 0; head = headOf h }
+toldMade (made.Refused k) = record { refused = k; value = 0; head = record { words = 0; len = 0; allocated = false } }
 
-abbrev pub ofCounted : Counted → KladoAnswer
-ofCounted (counted.Count n) = record { refused = 0; value = n }
-ofCounted (counted.Refused k) = record { refused = k; value = 0 }
+abbrev pub toldCounted : Counted → KladoAnswer
+toldCounted (counted.Count n) = record { refused = 0; value = n }
+toldCounted (counted.Refused k) = record { refused = k; value = 0 }
 
-abbrev pub ofTested : Tested → KladoAnswer
-ofTested (tested.Is b) = record { refused = 0; value = one b }
-ofTested (tested.Refused k) = record { refused = k; value = 0 }
+abbrev pub toldTested : Tested → KladoAnswer
+toldTested (tested.Is b) = record { refused = 0; value = one b }
+toldTested (tested.Refused k) = record { refused = k; value = 0 }
 
-abbrev pub ofFound : Found → KladoFound
-ofFound (place.At i) = record { refused = 0; found = 1; at = i }
-ofFound place.Nothing = record { refused = 0; found = 0; at = 0 }
-ofFound (place.Refused k) = record { refused = k; found = 0; at = 0 }
+abbrev pub toldFound : Found → KladoFound
+toldFound (found.At i) = record { refused = 0; found = 1; at = i }
+toldFound found.Nothing = record { refused = 0; found = 0; at = 0 }
+toldFound (found.Refused k) = record { refused = k; found = 0; at = 0 }
 
 -- an answer with the head after it
 abbrev pub withHead : KladoAnswer → RangeBitset → KladoSetAnswer
 withHead a h = record { refused = a .refused; value = a .value; head = headOf h }
 
-abbrev pub ofAssigned : Assigned → KladoSetAnswer
-ofAssigned a = withHead (ofCounted (a .answer)) (a .head)
+abbrev pub toldAssigned : Assigned → KladoSetAnswer
+toldAssigned a = withHead (toldCounted (a .answer)) (a .head)
 
-abbrev pub ofUpdated : Updated → KladoSetAnswer
-ofUpdated a = withHead (ofTested (a .answer)) (a .head)
+abbrev pub toldUpdated : Updated → KladoSetAnswer
+toldUpdated a = withHead (toldTested (a .answer)) (a .head)
 
 -- ---- the exports
 
@@ -69,28 +69,28 @@ pub record Told (A C : Type 0) (P : A → Type 0) (to : A → C) (c : C) : Type 
   pub told : c ≡ to answer
 
 abbrev pub CapacityTold : KladoSet → KladoAnswer → Type 0
-CapacityTold h c = Told Counted KladoAnswer (CapacityEnsures (setOf h)) ofCounted c
+CapacityTold h c = Told Counted KladoAnswer (CapacityEnsures (setOf h)) toldCounted c
 
 abbrev pub LenTold : KladoSet → KladoAnswer → Type 0
-LenTold h c = Told Counted KladoAnswer (LenEnsures (setOf h)) ofCounted c
+LenTold h c = Told Counted KladoAnswer (LenEnsures (setOf h)) toldCounted c
 
 abbrev pub GetTold : KladoSet → List ℕ → ℕ → KladoAnswer → Type 0
-GetTold h st i c = Told Tested KladoAnswer (GetEnsures (setOf h) st i) ofTested c
+GetTold h st i c = Told Tested KladoAnswer (GetEnsures (setOf h) st i) toldTested c
 
 abbrev pub CountTold : KladoSet → List ℕ → ℕ → ℕ → KladoAnswer → Type 0
-CountTold h st a e c = Told Counted KladoAnswer (CountEnsures (setOf h) st a e) ofCounted c
+CountTold h st a e c = Told Counted KladoAnswer (CountEnsures (setOf h) st a e) toldCounted c
 
 abbrev pub NextTold : Bool → KladoSet → List ℕ → ℕ → ℕ → KladoFound → Type 0
-NextTold v h st a e c = Told Found KladoFound (NextEnsures v (setOf h) st a e) ofFound c
+NextTold v h st a e c = Told Found KladoFound (NextEnsures v (setOf h) st a e) toldFound c
 
 abbrev pub AssignTold : KladoSet → List ℕ → ℕ → ℕ → Bool → KladoSetAnswer → List ℕ → Type 0
-AssignTold h st a e v c st′ = Told Assigned KladoSetAnswer (λ r. AssignEnsures (setOf h) st a e v r st′) ofAssigned c
+AssignTold h st a e v c st′ = Told Assigned KladoSetAnswer (λ r. AssignEnsures (setOf h) st a e v r st′) toldAssigned c
 
 abbrev pub SetTold : KladoSet → List ℕ → ℕ → Bool → KladoSetAnswer → List ℕ → Type 0
-SetTold h st i v c st′ = Told Updated KladoSetAnswer (λ r. SetEnsures (setOf h) st i v r st′) ofUpdated c
+SetTold h st i v c st′ = Told Updated KladoSetAnswer (λ r. SetEnsures (setOf h) st i v r st′) toldUpdated c
 
 abbrev pub ClearTold : KladoSet → List ℕ → KladoSetAnswer → List ℕ → Type 0
-ClearTold h st c st′ = Told Assigned KladoSetAnswer (λ r. ClearEnsures (setOf h) st r st′) ofAssigned c
+ClearTold h st c st′ = Told Assigned KladoSetAnswer (λ r. ClearEnsures (setOf h) st r st′) toldAssigned c
 
 abbrev pub AuditTold : KladoSet → List ℕ → KladoAnswer → Type 0
-AuditTold h st c = Told Tested KladoAnswer (AuditEnsures (setOf h) st) ofTested c
+AuditTold h st c = Told Tested KladoAnswer (AuditEnsures (setOf h) st) toldTested c

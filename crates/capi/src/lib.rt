@@ -13,7 +13,7 @@ use range_bitset::Updated;
 ghost use mathlib.Core.Path.{_≡_};
 ghost use mathlib.Core.Bool.{true, false};
 ghost use Rattle.range_bitset.specs.Entries.{newOf};
-ghost use Rattle.capi.specs.Told.{setOf, headOf, ofMade, ofCounted, ofTested, ofFound, withHead, CapacityTold, LenTold, GetTold, SetTold, AssignTold, CountTold, NextTold, ClearTold, AuditTold};
+ghost use Rattle.capi.specs.Told.{setOf, headOf, toldMade, toldCounted, toldTested, toldFound, withHead, CapacityTold, LenTold, GetTold, SetTold, AssignTold, CountTold, NextTold, ClearTold, AuditTold};
 
 // The head of a set.
 #[repr(C)]
@@ -69,7 +69,7 @@ pub fn head_of(set: RangeBitset) -> KladoSet
 
 // The answers in C's numbers.
 fn of_made(answer: Made) -> KladoSetAnswer
-    ensures { λ r. ⌜ r ≡ ofMade answer ⌝ }
+    ensures { λ r. ⌜ r ≡ toldMade answer ⌝ }
 {
     match answer {
         Made::Head(set) => KladoSetAnswer {
@@ -90,7 +90,7 @@ fn of_made(answer: Made) -> KladoSetAnswer
 }
 
 pub fn of_counted(answer: Counted) -> KladoAnswer
-    ensures { λ r. ⌜ r ≡ ofCounted answer ⌝ }
+    ensures { λ r. ⌜ r ≡ toldCounted answer ⌝ }
 {
     match answer {
         Counted::Count(n) => KladoAnswer {
@@ -105,7 +105,7 @@ pub fn of_counted(answer: Counted) -> KladoAnswer
 }
 
 fn of_tested(answer: Tested) -> KladoAnswer
-    ensures { λ r. ⌜ r ≡ ofTested answer ⌝ }
+    ensures { λ r. ⌜ r ≡ toldTested answer ⌝ }
 {
     match answer {
         Tested::Is(b) => KladoAnswer {
@@ -120,7 +120,7 @@ fn of_tested(answer: Tested) -> KladoAnswer
 }
 
 fn of_found(answer: Found) -> KladoFound
-    ensures { λ r. ⌜ r ≡ ofFound answer ⌝ }
+    ensures { λ r. ⌜ r ≡ toldFound answer ⌝ }
 {
     match answer {
         Found::At(i) => KladoFound {
@@ -154,7 +154,7 @@ fn with_head(told: KladoAnswer, set: RangeBitset) -> KladoSetAnswer
 
 #[no_mangle]
 pub extern "C" fn klado_set_new(capacity: usize) -> KladoSetAnswer
-    ensures { λ r. ⌜ r ≡ ofMade (newOf capacity) ⌝ }
+    ensures { λ r. ⌜ r ≡ toldMade (newOf capacity) ⌝ }
 {
     of_made(RangeBitset::new(capacity))
 }

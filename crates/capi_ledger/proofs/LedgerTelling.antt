@@ -10,22 +10,22 @@ use Rattle.ledger.specs.Entries.{CalledEnsures}
 use Rattle.capi_ledger.specs.declared.KladoLedger.{KladoLedger}
 use Rattle.capi_ledger.specs.declared.KladoLedgerAnswer.{KladoLedgerAnswer}
 use Rattle.capi.specs.declared.KladoAnswer.{KladoAnswer}
-use Rattle.capi.specs.Told.{ofCounted}
-use Rattle.capi_ledger.specs.LedgerTold.{ledgerOf, ledgerHead, withLedger, ofCalled, CallTold, WipeTold}
+use Rattle.capi.specs.Told.{toldCounted}
+use Rattle.capi_ledger.specs.LedgerTold.{ledgerOf, ledgerHead, withLedger, toldCalled, CallTold, WipeTold}
 use Rattle.capi.proofs.Telling.{telling}
 
 -- the answer's numbers, then the head with them
-pub tell-called : (r : Called) → (k : KladoAnswer) → k ≡ ofCounted (r .answer) → (h : KladoLedger) → h ≡ ledgerHead (r .head)
-    → withLedger k h ≡ ofCalled r
+pub tell-called : (r : Called) → (k : KladoAnswer) → k ≡ toldCounted (r .answer) → (h : KladoLedger) → h ≡ ledgerHead (r .head)
+    → withLedger k h ≡ toldCalled r
 tell-called r k t h e =
-    ap (λ (x : KladoAnswer). withLedger x h) t ∙ ap (λ (x : KladoLedger). withLedger (ofCounted (r .answer)) x) e
+    ap (λ (x : KladoAnswer). withLedger x h) t ∙ ap (λ (x : KladoLedger). withLedger (toldCounted (r .answer)) x) e
 
 pub tell-call : (k : Call) → (h : KladoLedger) → (g : Ledger) → g ≡ ledgerOf h → (st j st′ j′ : List ℕ) → (r : Called)
-    → CalledEnsures k g st j st′ j′ r → (c : KladoLedgerAnswer) → c ≡ ofCalled r → CallTold k h st j c st′ j′
+    → CalledEnsures k g st j st′ j′ r → (c : KladoLedgerAnswer) → c ≡ toldCalled r → CallTold k h st j c st′ j′
 tell-call k h g q st j st′ j′ r p c t =
-    telling Called KladoLedgerAnswer (λ x y. CalledEnsures k x st j st′ j′ y) ofCalled (ledgerOf h) g q r p c t
+    telling Called KladoLedgerAnswer (λ x y. CalledEnsures k x st j st′ j′ y) toldCalled (ledgerOf h) g q r p c t
 
 pub tell-wipe : (h : KladoLedger) → (g : Ledger) → g ≡ ledgerOf h → (st st′ : List ℕ) → (r : Called)
-    → ((j : List ℕ) → CalledEnsures Wipe g st j st′ j r) → (c : KladoLedgerAnswer) → c ≡ ofCalled r → WipeTold h st c st′
+    → ((j : List ℕ) → CalledEnsures Wipe g st j st′ j r) → (c : KladoLedgerAnswer) → c ≡ toldCalled r → WipeTold h st c st′
 tell-wipe h g q st st′ r p c t =
-    telling Called KladoLedgerAnswer (λ x y. (j : List ℕ) → CalledEnsures Wipe x st j st′ j y) ofCalled (ledgerOf h) g q r p c t
+    telling Called KladoLedgerAnswer (λ x y. (j : List ℕ) → CalledEnsures Wipe x st j st′ j y) toldCalled (ledgerOf h) g q r p c t

@@ -13,7 +13,7 @@ use Rattle.capi_ledger.specs.declared.KladoLedger.{KladoLedger}
 use Rattle.capi_ledger.specs.declared.KladoLedgerAnswer.{KladoLedgerAnswer}
 use Rattle.capi.specs.declared.KladoAnswer.{KladoAnswer}
 use Rattle.capi_ledger.specs.declared.KladoOpened.{KladoOpened}
-use Rattle.capi.specs.Told.{Told, setOf, headOf, ofCounted}
+use Rattle.capi.specs.Told.{Told, setOf, headOf, toldCounted}
 
 -- ---- heads: the same fields
 
@@ -33,27 +33,27 @@ unopened k i =
       head = record { set = record { words = 0; len = 0; allocated = false }; journal = 0; used = 0 };
     }
 
-abbrev pub ofOpened : Opened → KladoOpened
-ofOpened (opened.Head h) = record { refused = 0; run = 0; head = ledgerHead h }
-ofOpened (opened.Refused k) = unopened k 0
-ofOpened (opened.BadRun i) = unopened 8 i
+abbrev pub toldOpened : Opened → KladoOpened
+toldOpened (opened.Head h) = record { refused = 0; run = 0; head = ledgerHead h }
+toldOpened (opened.Refused k) = unopened k 0
+toldOpened (opened.BadRun i) = unopened 8 i
 
 -- an answer with the head after it
 abbrev pub withLedger : KladoAnswer → KladoLedger → KladoLedgerAnswer
 withLedger a h = record { refused = a .refused; value = a .value; head = h }
 
-abbrev pub ofCalled : Called → KladoLedgerAnswer
-ofCalled a = withLedger (ofCounted (a .answer)) (ledgerHead (a .head))
+abbrev pub toldCalled : Called → KladoLedgerAnswer
+toldCalled a = withLedger (toldCounted (a .answer)) (ledgerHead (a .head))
 
--- ---- the exports: new's answer is ofOpened of the ledger's newOf
+-- ---- the exports: new's answer is toldOpened of the ledger's newOf
 
 abbrev pub OpenTold : List ℕ → ℕ → List ℕ → List ℕ → KladoOpened → List ℕ → Type 0
-OpenTold file j st journal c st′ = Told Opened KladoOpened (λ r. OpenEnsures file j st journal r st′) ofOpened c
+OpenTold file j st journal c st′ = Told Opened KladoOpened (λ r. OpenEnsures file j st journal r st′) toldOpened c
 
 -- marking, clearing and take-back
 abbrev pub CallTold : Call → KladoLedger → List ℕ → List ℕ → KladoLedgerAnswer → List ℕ → List ℕ → Type 0
-CallTold k h st j c st′ j′ = Told Called KladoLedgerAnswer (CalledEnsures k (ledgerOf h) st j st′ j′) ofCalled c
+CallTold k h st j c st′ j′ = Told Called KladoLedgerAnswer (CalledEnsures k (ledgerOf h) st j st′ j′) toldCalled c
 
 -- wipe is lent no journal: its promise is for any
 abbrev pub WipeTold : KladoLedger → List ℕ → KladoLedgerAnswer → List ℕ → Type 0
-WipeTold h st c st′ = Told Called KladoLedgerAnswer (λ r. (j : List ℕ) → CalledEnsures Wipe (ledgerOf h) st j st′ j r) ofCalled c
+WipeTold h st c st′ = Told Called KladoLedgerAnswer (λ r. (j : List ℕ) → CalledEnsures Wipe (ledgerOf h) st j st′ j r) toldCalled c

@@ -17,7 +17,7 @@ ghost use mathlib.Core.Bool.{true, false};
 ghost use lib.ListN.{length};
 ghost use Rattle.ledger.specs.Machine.{Range, Back, point};
 ghost use Rattle.ledger.specs.Entries.{newOf as newLedgerOf};
-ghost use Rattle.capi_ledger.specs.LedgerTold.{ledgerOf, ledgerHead, unopened, ofOpened, ofCalled, CallTold, WipeTold, OpenTold};
+ghost use Rattle.capi_ledger.specs.LedgerTold.{ledgerOf, ledgerHead, unopened, toldOpened, toldCalled, CallTold, WipeTold, OpenTold};
 
 // The head of a ledger.
 #[repr(C)]
@@ -84,7 +84,7 @@ fn unopened(refused: u32, run: u64) -> KladoOpened
 }
 
 fn of_opened(answer: Opened) -> KladoOpened
-    ensures { λ r. ⌜ r ≡ ofOpened answer ⌝ }
+    ensures { λ r. ⌜ r ≡ toldOpened answer ⌝ }
 {
     match answer {
         Opened::Head(ledger) => KladoOpened {
@@ -99,7 +99,7 @@ fn of_opened(answer: Opened) -> KladoOpened
 
 // An answer and the head after it.
 fn of_called(called: Called) -> KladoLedgerAnswer
-    ensures { λ r. ⌜ r ≡ ofCalled called ⌝ }
+    ensures { λ r. ⌜ r ≡ toldCalled called ⌝ }
 {
     let answer = called.answer;
     let after = called.head;
@@ -118,7 +118,7 @@ pub extern "C" fn klado_ledger_new(
     storage: &[u64],
     journal: &[u32],
 ) -> KladoOpened
-    ensures { λ r. ⌜ r ≡ ofOpened (newLedgerOf capacity limit (length (now (storage .entry))) (length (now (journal .entry)))) ⌝ }
+    ensures { λ r. ⌜ r ≡ toldOpened (newLedgerOf capacity limit (length (now (storage .entry))) (length (now (journal .entry)))) ⌝ }
 {
     of_opened(Ledger::new(capacity, limit, storage, journal))
 }

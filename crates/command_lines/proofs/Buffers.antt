@@ -15,7 +15,7 @@ use Rattle.command_lines.specs.declared.Gathered.{Gathered}
 use Rattle.command_lines.specs.declared.Command.the-variants.{Bad}
 use Rattle.command_lines.specs.declared.Pair.the-variants.{Both, Not}
 use Rattle.command_lines.specs.Lines.{fields, isNumber, allDigits, value, same, new, mark, clear, count, one, zero, back, wipe, with, command, meaning}
-use Rattle.command_lines.specs.Input.{linesFrom, upTo, ends, keptNext, keptAfter, Gathers, Holds}
+use Rattle.command_lines.specs.Input.{linesFrom, upTo, ends, keptNext, keptAfter, Gathers, Buffered}
 use Rattle.command_lines.proofs.Texts.{same-true}
 use Rattle.command_lines.proofs.Fields.{joined, fields-joined}
 use Rattle.command_lines.proofs.Meaning.{with-none}
@@ -62,10 +62,10 @@ long-line line h = go (fields line) (fields-joined line) where
 
 -- ---- what the buffer holds
 
-pub holds-none : (buffer : List ℕ) → Holds buffer 0 []
+pub holds-none : (buffer : List ℕ) → Buffered buffer 0 []
 holds-none buffer = record { filled = omega arith; bytes = sym (take-all (length buffer) [] (omega arith)) }
 
-holds-byte : (buffer l : List ℕ) (n b : ℕ) → Holds buffer n l → Holds (set buffer n b) (keptNext (length buffer) n) (l ++ (b ∷ []))
+holds-byte : (buffer l : List ℕ) (n b : ℕ) → Buffered buffer n l → Buffered (set buffer n b) (keptNext (length buffer) n) (l ++ (b ∷ []))
 holds-byte buffer l n b h = go (ltb n (length buffer)) refl where
   s : length (set buffer n b) ≡ length buffer
   s = length-set buffer n b
@@ -73,7 +73,7 @@ holds-byte buffer l n b h = go (ltb n (length buffer)) refl where
   a : length (l ++ (b ∷ [])) ≡ length l + 1
   a = length-append l (b ∷ [])
 
-  go : (t : Bool) → ltb n (length buffer) ≡ t → Holds (set buffer n b) (cond t (n + 1) n) (l ++ (b ∷ []))
+  go : (t : Bool) → ltb n (length buffer) ≡ t → Buffered (set buffer n b) (cond t (n + 1) n) (l ++ (b ∷ []))
   go true e =
       let k : n < length buffer = ltb-true n (length buffer) e in
       let m : n ≡ length l = omega (arith, h .filled) in
@@ -90,7 +90,7 @@ holds-byte buffer l n b h = go (ltb n (length buffer)) refl where
         bytes = rw (set-out buffer n b k) (h .bytes ∙ sym (take-append-le (length buffer) l (b ∷ []) m));
       }
 
-pub holds-bytes : (p buffer l : List ℕ) (n : ℕ) → Holds buffer n l → Holds (sets buffer n p) (keptAfter (length buffer) n p) (l ++ p)
+pub holds-bytes : (p buffer l : List ℕ) (n : ℕ) → Buffered buffer n l → Buffered (sets buffer n p) (keptAfter (length buffer) n p) (l ++ p)
 holds-bytes [] buffer l n h = rw (append-nil l, ← kept-none (length buffer) n) h
 holds-bytes (b ∷ p) buffer l n h =
     let i = holds-bytes p (set buffer n b) (l ++ (b ∷ [])) (keptNext (length buffer) n) (holds-byte buffer l n b h) in
@@ -98,11 +98,11 @@ holds-bytes (b ∷ p) buffer l n h =
 
 -- gathering keeps hold of the line
 pub gathers-holds : (text : List ℕ) (from : ℕ) (line : List ℕ) (kept : ℕ) (r : Gathered) (after l : List ℕ) → Gathers text from line kept r after
-    → Holds line kept l → Holds after (r .kept) (l ++ upTo (drop from text))
+    → Buffered line kept l → Buffered after (r .kept) (l ++ upTo (drop from text))
 gathers-holds text from line kept r after l g h = rw (g .line-after, g .kept-after) (holds-bytes (upTo (drop from text)) line l kept h)
 
 -- the bytes kept mean what the line means
-pub held-means : (buffer l : List ℕ) (n : ℕ) → 27 < length buffer → Holds buffer n l → meaning (take n buffer) ≡ meaning l
+pub held-means : (buffer l : List ℕ) (n : ℕ) → 27 < length buffer → Buffered buffer n l → meaning (take n buffer) ≡ meaning l
 held-means buffer l n k h = go (leb (length l) (length buffer)) refl where
   go : (s : Bool) → leb (length l) (length buffer) ≡ s → meaning (take n buffer) ≡ meaning l
   go true e = ap meaning (h .bytes ∙ take-all (length buffer) l (leb-true (length l) (length buffer) e))

@@ -52,6 +52,6 @@ pub record Gathers (text : List ℕ) (from : ℕ) (line : List ℕ) (kept : ℕ)
   pub next : r .at ≡ from + length (upTo (drop from text)) + cond (ends (drop from text)) 1 0
 
 -- the buffer, filled up to n, holds the bytes l of a line, or as many of the first ones as it has room for
-pub record Holds (buffer : List ℕ) (n : ℕ) (l : List ℕ) : Type 0 where
+pub record Buffered (buffer : List ℕ) (n : ℕ) (l : List ℕ) : Type 0 where
   pub filled : n ≡ min (length l) (length buffer)
   pub bytes : take n buffer ≡ take (length buffer) l

@@ -9,17 +9,20 @@ use borrow.Author.Tests.{le-leb, eq-eqb, ne-eqb, eqb-true, eqb-false}
 use lib.Dec.{eqb, leb, ltb}
 use lib.ListN.{length, getD, take, length-append}
 use lib.Seq.{length-take-le, getD-take, take-take, take-at}
+use Rattle.positions.proofs.Replies.{accepted-refused}
 use Rattle.positions.specs.Positions.{Positions, count, one}
 use Rattle.positions.specs.Runs.{Run, changedRuns, lengths}
 use Rattle.positions.proofs.Assigned.{changed-le}
 use Rattle.positions.proofs.Changes.{changed-lengths}
-use Rattle.range_bitset.proofs.Heads.{accepted-refused, good-bounds}
+use Rattle.range_bitset.proofs.Heads.{good-bounds}
+use Rattle.range_bitset.proofs.Slots.{past-same}
 use Rattle.range_bitset.specs.Represents.{Represents, capacityOf}
-use Rattle.range_bitset.specs.Answers.{Number, Refusal, ofCounted, storageRefusal}
+use Rattle.positions.specs.Replies.{number, refusal}
+use Rattle.range_bitset.specs.Answers.{ofCounted, storageRefusal}
 use Rattle.range_bitset.specs.Entries.{ClearEnsures}
 use Rattle.range_bitset.specs.declared.RangeBitset.{RangeBitset}
 use Rattle.range_bitset.specs.declared.Assigned.{Assigned}
-use Rattle.ledger.specs.Machine.{Machine, Standing, Back, Wipe, held, setOf, population, needs, used, made, Stands, Made, withStanding, step}
+use Rattle.ledger.specs.Machine.{Machine, Standing, Back, Wipe, held, setOf, population, needs, used, standingCall, Stands, StandAll, withStanding, step}
 use Rattle.ledger.specs.Journal.{entry, journalOf}
 use Rattle.ledger.specs.Memory.{Memory, memory, Holds, lentRefusal, wipeRefusal, callRefusal}
 use Rattle.ledger.specs.Entries.{CallEnsures, restores}
@@ -27,7 +30,7 @@ use Rattle.ledger.specs.Inner.{lastOf, readRuns, changedByRuns, Within, 
 use Rattle.ledger.specs.declared.Ledger.{Ledger}
 use Rattle.ledger.specs.declared.Last.{Last}
 use Rattle.ledger.specs.declared.Last.the-variants as last
-use Rattle.ledger.proofs.Machines.{standing-entry, kept-fresh, kept-step, step-none, step-back, none-standing, set-after-back, journal-length}
+use Rattle.ledger.proofs.Machines.{standing-entry, reachable-fresh, reachable-step, step-none, step-back, none-standing, set-after-back, journal-length}
 use Rattle.ledger.proofs.Journals.{length-entry, entry-last, packed-runs, packed-value, read-entry}
 use Rattle.ledger.proofs.Reassigning.{read-take, changed-within, any-lengths, back-count}
 use Rattle.ledger.proofs.Refusals.{refused-call, LentEnough, lent-accepted, lent-again, ledger-set, lent-wipes, set-accepts}
@@ -39,7 +42,7 @@ needs-none n = sym (ap (λ (b : Bool). cond b 0 6) (le-leb 0 n (omega arith)))
 -- ---- `wipe`
 
 module _ (h : Ledger) (st j : List ℕ) where
-  pub wipe-refused : (k : ℕ) → k ≡ wipeRefusal h (length st) → (k ≡ 0 → ⊥) → CallEnsures Wipe (memory h st j) (Refusal k) (memory h st j)
+  pub wipe-refused : (k : ℕ) → k ≡ wipeRefusal h (length st) → (k ≡ 0 → ⊥) → CallEnsures Wipe (memory h st j) (refusal k) (memory h st j)
   unfolding callRefusal
   wipe-refused k e z =
       refused-call Wipe (memory h st j) k e z
@@ -64,12 +67,12 @@ module _ (h : Ledger) (st j : List ℕ) where
           same-words = e .same-words;
           same-limit = refl;
           used-most = λ w. omega arith;
-          storage-kept = e .kept;
+          storage-kept = past-same _ _ (e .same-words) (e .storage-kept);
           journal-kept = λ i w. refl;
-          answers = λ m q. e .answers ok (setOf m) (q .set) ∙ ap (λ (x : ℕ). Number (count (setOf m) 0 x)) (q .capacity);
+          answers = λ m q. e .answers ok (setOf m) (q .set) ∙ ap (λ (x : ℕ). number (count (setOf m) 0 x)) (q .capacity);
           holds = λ m q.
               record {
-                kept = kept-fresh (m .capacity) (m .journal);
+                reachable = reachable-fresh (m .capacity) (m .journal);
                 lent = lent-again h _ _ _ _ _ _ _ (lent-accepted h (h .journal) (length st) (length j) (q .lent)) (e .same-words)
                     (e .represents ok (setOf m) (q .set)) refl (omega arith) long refl;
                 capacity = ap (λ (x : ℕ). 64 * x) (e .same-words) ∙ q .capacity;
@@ -174,16 +177,16 @@ module _ (j l : List ℕ) (rs : List Run) (w : Bool) (u n : ℕ) (v : Bool) (roo
 -- ---- `take_back`
 
 module _ (h : Ledger) (st j : List ℕ) where
-  pub back-refused : (k : ℕ) → k ≡ lentRefusal h (length st) (length j) → (k ≡ 0 → ⊥) → CallEnsures Back (memory h st j) (Refusal k) (memory h st j)
+  pub back-refused : (k : ℕ) → k ≡ lentRefusal h (length st) (length j) → (k ≡ 0 → ⊥) → CallEnsures Back (memory h st j) (refusal k) (memory h st j)
   unfolding callRefusal
   back-refused k e z =
       refused-call Back (memory h st j) k (rw (sym e, ne-eqb k 0 z)) z (λ m q. absurd (z (e ∙ q .lent)))
 
-  pub back-none : lentRefusal h (length st) (length j) ≡ 0 → h .used ≡ 0 → CallEnsures Back (memory h st j) (Refusal 5) (memory h st j)
+  pub back-none : lentRefusal h (length st) (length j) ≡ 0 → h .used ≡ 0 → CallEnsures Back (memory h st j) (refusal 5) (memory h st j)
   unfolding callRefusal
   back-none z e =
       refused-call Back (memory h st j) 5 (rw (z, eq-eqb (h .used) 0 e)) (λ w. omega arith)
-      (λ m q. step-none m (none-standing m (q .kept) (sym (q .in-use) ∙ e)))
+      (λ m q. step-none m (none-standing m (q .reachable) (sym (q .in-use) ∙ e)))
 
   pub back-room : (n : ℕ) (v : Bool) → lentRefusal h (length st) (length j) ≡ 0 → LastRead j (h .used) n v
       → (h .used - (2 * n + 1) + 2 * n ≤ length j) × (h .used - (2 * n + 1) + 2 * n ≤ 16384)
@@ -209,7 +212,7 @@ module _ (h : Ledger) (st j : List ℕ) where
       flag : h′ .allocated ≡ (h .set .allocated || (not (c .value) && ltb 0 (c .changed)))
 
     done : (m : Machine) → Holds (memory h st j) m → (c : Standing) (cs : List Standing) → m .standing ≡ c ∷ cs → Back-done m c cs
-    unfolding setOf used made
+    unfolding setOf used standingCall
     done m q c cs e =
         record {
           answered = omega (arith, b .changed ok S t w, counted, few);
@@ -231,8 +234,8 @@ module _ (h : Ledger) (st j : List ℕ) where
         rs : List Run
         rs = changedRuns s (c .start) (c .end) (c .value)
 
-        mades : Made (m .capacity) (m .opened) (c ∷ cs)
-        mades = rw e at (q .kept .standing)
+        mades : StandAll (m .capacity) (m .opened) (c ∷ cs)
+        mades = rw e at (q .reachable .standing)
 
         stands : Stands (m .capacity) s c
         stands = mades .0
@@ -279,7 +282,7 @@ module _ (h : Ledger) (st j : List ℕ) where
     holds-after m q c cs e =
         let d = done m q c cs e in
         record {
-          kept = rw (step-back m c cs e) at (kept-step m Back (q .kept));
+          reachable = rw (step-back m c cs e) at (reachable-step m Back (q .reachable));
           lent = lent-again h (after .head) _ _ (length st′) (length j) st′ (held (m .opened) cs) lent (a .reassigns .same-words) (d .represents) refl (omega (arith, r .fits, lent .used-most)) long refl;
           capacity = ap (λ (x : ℕ). 64 * x) (a .reassigns .same-words) ∙ q .capacity;
           journal-length = q .journal-length;
@@ -288,7 +291,7 @@ module _ (h : Ledger) (st j : List ℕ) where
           journal = d .journal;
         }
 
-    pub taken-back : CallEnsures Back (memory h st j) (Number count-back) after
+    pub taken-back : CallEnsures Back (memory h st j) (number count-back) after
     unfolding callRefusal
     taken-back =
         record {
@@ -300,9 +303,9 @@ module _ (h : Ledger) (st j : List ℕ) where
           same-words = a .reassigns .same-words;
           same-limit = refl;
           used-most = λ w. omega (arith, r .fits, lent .used-most);
-          storage-kept = a .reassigns .kept;
+          storage-kept = past-same _ _ (a .reassigns .same-words) (a .reassigns .storage-kept);
           journal-kept = λ i w. refl;
-          answers = λ m q. stands-some m q (λ x. Number count-back ≡ step m Back .answer) (λ c cs e. rw (step-back m c cs e) (ap Number (done m q c cs e .answered)));
+          answers = λ m q. stands-some m q (λ x. number count-back ≡ step m Back .answer) (λ c cs e. rw (step-back m c cs e) (ap number (done m q c cs e .answered)));
           holds = λ m q. stands-some m q (λ x. Holds after (step m Back .next)) (λ c cs e. rw (step-back m c cs e) (holds-after m q c cs e));
           flag = λ m q. stands-some m q (λ x. h′ .allocated ≡ (h .set .allocated || restores x)) (λ c cs e. done m q c cs e .flag);
         }

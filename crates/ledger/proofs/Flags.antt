@@ -9,8 +9,8 @@ use borrow.Author.Tests.{le-ltb, ltb-true, ltb-false}
 use lib.Dec.{ltb}
 use Rattle.positions.specs.Positions.{changedCount, differ, lacking}
 use Rattle.positions.proofs.Counts.{count-none}
-use Rattle.range_bitset.specs.Answers.{Reply, Number, Nothing, Refusal}
-use Rattle.ledger.specs.Machine.{Machine, Standing, Call, Range, Back, Wipe, setOf, made, Verdict, Accepted, Declined, rangeVerdict, standsAny, decided, step, after, changedBy}
+use Rattle.positions.specs.Replies.{Reply, Numbers, Refusal}
+use Rattle.ledger.specs.Machine.{Machine, Standing, Call, Range, Back, Wipe, setOf, standingCall, Verdict, Admitted, Declined, rangeVerdict, standsAny, decided, step, after, changedBy}
 use Rattle.ledger.specs.Memory.{Memory, Holds}
 use Rattle.ledger.specs.Entries.{CallEnsures, restores, flagAfter}
 use Rattle.ledger.specs.History.{Begun, by-new, by-open, Chain, none, call}
@@ -46,15 +46,15 @@ module _ (x : Memory) (m : Machine) (q : Holds x m) (u : Unmarked x m) where
         where
           go : (b : Bool) → ltb i (m .capacity) ≡ b → setOf m i ≡ false
           go true y = q .set .fresh f i (omega (arith, ltb-true i (m .capacity) y, q .capacity))
-          go false y = set-inside m (q .kept) i (ltb-false i (m .capacity) y)
+          go false y = set-inside m (q .reachable) i (ltb-false i (m .capacity) y)
 
   module _ (r : Reply) (y : Memory) where
     unmarked-range : (a e : ℕ) (v : Bool) (w : Verdict) → r ≡ decided w m (Range a e v) .answer → flagOf y ≡ flagAfter (flagOf x) m (Range a e v) r
         → Unmarked y (decided w m (Range a e v) .next)
-    unfolding made
+    unfolding standingCall
     unmarked-range a e v (Declined k) p g f = u (sym (g ∙ rw p) ∙ f)
-    unmarked-range a e true Accepted p g f = omega (arith, u (or-clear (flagOf x) (true && ltb a e) (sym (g ∙ rw p) ∙ f)))
-    unmarked-range a e false Accepted p g f =
+    unmarked-range a e true Admitted p g f = omega (arith, u (or-clear (flagOf x) (true && ltb a e) (sym (g ∙ rw p) ∙ f)))
+    unmarked-range a e false Admitted p g f =
         let z = or-clear (flagOf x) (false && ltb a e) (sym (g ∙ rw p) ∙ f) in
         omega (arith, u z, clears-none a e z)
 
@@ -85,10 +85,9 @@ module _ (x : Memory) (m : Machine) (q : Holds x m) (u : Unmarked x m) where
           one-call false z = le-ltb 0 (c .changed) (omega arith)
 
       by : (r : Reply) (b : Bool) → flagOf x ≡ b → flagAfter (flagOf x) m Back r ≡ flagOf x
-      by (Number n) true f = rw f
-      by (Number n) false f = rw f (nothing (m .standing) (u f))
-      by Nothing b f = refl
-      by (Refusal n) b f = refl
+      by (Numbers ns) true f = rw f
+      by (Numbers ns) false f = rw f (nothing (m .standing) (u f))
+      by (Refusal k vs) b f = refl
 
 pub unmarked-chain : (x y : Memory) (m : Machine) (cs : List Call) (rs : List Reply) → Holds x m → Unmarked x m → Chain x cs rs y
     → Holds y (after m cs .last) × Unmarked y (after m cs .last)

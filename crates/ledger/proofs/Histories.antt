@@ -10,17 +10,18 @@ use lib.ListN.{length}
 use Rattle.positions.specs.Positions.{Positions, count}
 use Rattle.positions.proofs.Bools.{and-left, and-right}
 use Rattle.range_bitset.specs.Layout.{allowed}
-use Rattle.range_bitset.specs.Answers.{Reply, allowedCapacity, storageRefusal, rangeRefusal, pointRefusal}
+use Rattle.positions.specs.Replies.{Reply, refused}
+use Rattle.range_bitset.specs.Answers.{allowedCapacity, storageRefusal, rangeRefusal, pointRefusal}
 use Rattle.range_bitset.specs.Entries.{Answers}
 use Rattle.range_bitset.proofs.Heads.{range-accepts, point-accepts, fresh-represents}
 use Rattle.ledger.specs.Machine.{Machine, fresh, Call, Outcome, step, after, setOf, population, used}
 use Rattle.ledger.specs.Memory.{Memory, memory, lentEnough, Holds}
-use Rattle.ledger.specs.Entries.{newHead, newOf, refusalOf}
+use Rattle.ledger.specs.Entries.{newHead, newOf, ofOpened}
 use Rattle.ledger.specs.History.{Begun, by-new, by-open, Chain, none as no-call, call, Agrees, History}
 use Rattle.ledger.specs.declared.Ledger.{Ledger}
 use Rattle.ledger.specs.declared.Opened.{Opened}
 use Rattle.ledger.specs.declared.Opened.the-variants as opened
-use Rattle.ledger.proofs.Machines.{kept-fresh, population-sum}
+use Rattle.ledger.proofs.Machines.{reachable-fresh, population-sum}
 use Rattle.ledger.proofs.Refusals.{lent-accepted, set-accepts, fresh-refusal}
 
 -- ---- what new gives
@@ -37,7 +38,7 @@ module _ (capacity j : ℕ) (st journal : List ℕ) where
   holds-fresh p q =
       let good : allowedCapacity capacity ≡ true = and-left (allowedCapacity capacity) (leb j 16384) p in
       record {
-        kept = kept-fresh capacity j;
+        reachable = reachable-fresh capacity j;
         lent =
             fresh-refusal capacity j (length st) (length journal) good (leb-true j 16384 (and-right (allowedCapacity capacity) (leb j 16384) p))
             ∙ ap (λ (b : Bool). cond b 0 3) q;
@@ -57,8 +58,8 @@ module _ (capacity j : ℕ) (st journal : List ℕ) where
           → (q : Bool) → lentEnough (capacity / 64) j (length st) (length journal) ≡ q
           → cond p (cond q (opened.Head (newHead (capacity / 64) j false)) (opened.Refused 3)) (opened.Refused 1) ≡ opened.Head h
           → Holds (memory h st journal) (fresh capacity j)
-      by false x q y z = absurd (omega (arith, ap (λ (o : Opened). length (refusalOf o)) z))
-      by true x false y z = absurd (omega (arith, ap (λ (o : Opened). length (refusalOf o)) z))
+      by false x q y z = absurd (omega (arith, ap (λ (o : Opened). refused (ofOpened o)) z))
+      by true x false y z = absurd (omega (arith, ap (λ (o : Opened). refused (ofOpened o)) z))
       by true x true y z = subst (λ (k : Ledger). Holds (memory k st journal) (fresh capacity j)) (ap (headOr h) z) (holds-fresh x y)
 
 pub begun : (x : Memory) (m : Machine) → Begun x m → Holds x m
@@ -113,7 +114,7 @@ agrees o rs x e h =
       ones = λ a b l r q. asked x m h (in-range x m h b l) q;
       zeros = λ a b l r q. asked x m h (in-range x m h b l) q;
       population-agrees = size x m h;
-      population-sum = rw (size x m h) (population-sum m (h .kept));
+      population-sum = rw (size x m h) (population-sum m (h .reachable));
       use-agrees = h .in-use;
     }
 

@@ -10,35 +10,36 @@ use borrow.Author.Tests.{leb-true, leb-false, le-leb, lt-leb}
 use lib.Dec.{leb}
 use lib.ListN.{length, getD, take, set, length-set}
 use lib.Seq.{getD-set-other, take-suc-set}
-use Rattle.positions.specs.Positions.{Positions, Found, At, None, first, one}
+use Rattle.positions.specs.Positions.{Positions, Place, At, None, first, one}
 use Rattle.positions.specs.Runs.{Run, run, placeOr, runEnd, changedRuns}
 use Rattle.positions.proofs.Searches.{Searched, hit, miss, first-means}
 use Rattle.positions.proofs.Changes.{changed-none, changed-next, changed-few}
 use Rattle.positions.proofs.Runs.{runs-empty}
 use Rattle.range_bitset.specs.Represents.{Represents}
-use Rattle.range_bitset.specs.Answers.{ofPlace, ofFound, rangeRefusal}
+use Rattle.positions.specs.Replies.{ofPlace}
+use Rattle.range_bitset.specs.Answers.{ofFound, rangeRefusal}
 use Rattle.range_bitset.specs.Entries.{NextEnsures}
 use Rattle.range_bitset.specs.declared.RangeBitset.{RangeBitset}
-use Rattle.range_bitset.specs.declared.Found.{Found as Place}
-use Rattle.range_bitset.specs.declared.Found.the-variants as place
+use Rattle.range_bitset.specs.declared.Found.{Found}
+use Rattle.range_bitset.specs.declared.Found.the-variants as found
 use Rattle.range_bitset.proofs.Heads.{range-accepted}
 use Rattle.ledger.specs.Machine.{Call, Range, Back, Wipe, needOf}
 use Rattle.ledger.specs.Journal.{pairs, entry, written}
 use Rattle.ledger.specs.Entries.{callNeed, mostNeed}
-use Rattle.ledger.specs.Inner.{Finds, RunsFit, CountsRuns, WritesRuns, WritesCall, placeIn}
+use Rattle.ledger.specs.Inner.{Finds, RunsFit, CountsRuns, WritesRuns, WritesCall, foundIn}
 
 -- ---- a search
 
-pub found-place : (h : RangeBitset) (st : List ℕ) (a e : ℕ) (v : Bool) (p : Place) → NextEnsures v h st a e p → Finds h st a e v (placeIn p e)
+pub found-place : (h : RangeBitset) (st : List ℕ) (a e : ℕ) (v : Bool) (p : Found) → NextEnsures v h st a e p → Finds h st a e v (foundIn p e)
 found-place h st a e v p q z s r = by p (first s v a e) (q .answers z s r)
   where
-    by : (p : Place) (f : Found) → ofPlace p ≡ ofFound f → placeIn p e ≡ placeOr e f
-    by (place.At i) (At j) x = cc
-    by (place.At i) None x = absurd (let z : _≡_ {A = ℕ} 0 1 = cc in omega arith)
-    by place.Nothing (At j) x = absurd (let z : _≡_ {A = ℕ} 0 1 = cc in omega arith)
-    by place.Nothing None x = refl
-    by (place.Refused k) (At j) x = absurd (let z : _≡_ {A = ℕ} 0 1 = cc in omega arith)
-    by (place.Refused k) None x = absurd (let z : _≡_ {A = ℕ} 0 1 = cc in omega arith)
+    by : (p : Found) (f : Place) → ofFound p ≡ ofPlace f → foundIn p e ≡ placeOr e f
+    by (found.At i) (At j) x = cc
+    by (found.At i) None x = absurd (let z : _≡_ {A = ℕ} 0 1 = cc in omega arith)
+    by found.Nothing (At j) x = absurd (let z : _≡_ {A = ℕ} 0 1 = cc in omega arith)
+    by found.Nothing None x = refl
+    by (found.Refused k) (At j) x = absurd (let z : _≡_ {A = ℕ} 0 1 = cc in omega arith)
+    by (found.Refused k) None x = absurd (let z : _≡_ {A = ℕ} 0 1 = cc in omega arith)
 
 -- ---- the changed runs by two searches: p the first position to change, q the first behind it that is not
 
@@ -50,7 +51,7 @@ no-run s a e v p x h = by (first s (not v) a e) refl (first-means s (not v) a e)
     empty true y k = changed-none s a e v (leb-true a e y) k
     empty false y k = runs-empty _ a e (omega (arith, leb-false a e y))
 
-    by : (f : Found) → first s (not v) a e ≡ f → Searched s (not v) a e f → p ≡ placeOr e f → changedRuns s a e v ≡ []
+    by : (f : Place) → first s (not v) a e ≡ f → Searched s (not v) a e f → p ≡ placeOr e f → changedRuns s a e v ≡ []
     by f k (hit i m) y = absurd (omega (arith, m .high))
     by f k (miss m) y = empty (leb a e) refl k
 
@@ -62,7 +63,7 @@ next-run s a e v p q x y h = by (first s (not v) a e) refl x
     ends : q ≡ runEnd s (not v) p e
     ends = rw Bool·not-not y
 
-    by : (f : Found) → first s (not v) a e ≡ f → p ≡ placeOr e f → changedRuns s a e v ≡ run p q ∷ changedRuns s q e v
+    by : (f : Place) → first s (not v) a e ≡ f → p ≡ placeOr e f → changedRuns s a e v ≡ run p q ∷ changedRuns s q e v
     by (At i) k z = rw ends (changed-next s a e v p (rw z k))
     by None k z = absurd (omega arith)
 
@@ -147,7 +148,7 @@ apart j at x y k (inr h) = getD-set-other (set j at x) (at + 1) k y 0 (λ z. ome
 place-le : (s : Positions) (v : Bool) (a e : ℕ) → placeOr e (first s v a e) ≤ e
 place-le s v a e = by (first s v a e) (first-means s v a e)
   where
-    by : (f : Found) → Searched s v a e f → placeOr e f ≤ e
+    by : (f : Place) → Searched s v a e f → placeOr e f ≤ e
     by f (hit i m) = omega (arith, m .high)
     by f (miss m) = omega arith
 

@@ -7,6 +7,7 @@ use native.Mathlib.Omega.{arith}
 use borrow.Author.Tests.{le-leb, lt-leb, lt-ltb, le-ltb, eq-eqb, ne-eqb}
 use lib.Dec.{eqb}
 use lib.ListN.{length}
+use Rattle.positions.proofs.Replies.{numbers-refusal}
 use Rattle.positions.specs.Positions.{Positions, none}
 use Rattle.positions.specs.Runs.{Ascending}
 use Rattle.positions.proofs.Runs.{covered-above}
@@ -17,16 +18,17 @@ use Rattle.range_bitset.specs.declared.RangeBitset.{RangeBitset}
 use Rattle.range_bitset.specs.declared.Made.{Made}
 use Rattle.range_bitset.specs.declared.Made.the-variants as made
 use Rattle.range_bitset.proofs.Heads.{freshHead, fresh-represents}
-use Rattle.ledger.specs.Entries.{newHead, newOf, refusalOf, openRefusal, OpenEnsures}
+use Rattle.ledger.specs.Entries.{newHead, newOf, ofOpened, openReply, OpenEnsures}
 use Rattle.ledger.specs.Machine.{openedWith, setOf, used}
 use Rattle.ledger.specs.Memory.{lentEnough, lentRefusal, memory, Holds}
 use Rattle.ledger.specs.Inner.{Within, Reassigns, fileRuns, OpensRuns}
 use Rattle.ledger.specs.declared.Opened.{Opened}
-use Rattle.ledger.proofs.Machines.{kept-opened}
+use Rattle.ledger.proofs.Machines.{reachable-opened}
 use Rattle.ledger.proofs.Refusals.{LentEnough, lent-accepted, set-accepts, lent-again, fresh-refusal, fresh-enough}
 use Rattle.ledger.proofs.Reassigning.{ascending-within, ascending-any}
 use Rattle.saved_list.specs.Format.{savedWords, savedCount, savedCapacity, savedRuns, savedPositions, Headed, Whole, headed, whole, firstBadRun}
-use Rattle.saved_list.specs.Answers.{refuses, headerAnswer, headerOf, lengthAnswer, lengthOf, runsAnswer, runsOf}
+use Rattle.positions.specs.Replies.{Refusal, number, refusal}
+use Rattle.saved_list.specs.Answers.{ofHeader, headerReply, ofLengthCheck, lengthReply, ofRunCheck, runsReply}
 use Rattle.saved_list.specs.declared.Header.{Header}
 use Rattle.saved_list.specs.declared.Header.the-variants.{Fields, BadHeader}
 use Rattle.saved_list.specs.declared.LengthCheck.{LengthCheck}
@@ -81,31 +83,28 @@ module _ (capacity j n k : ℕ) where
 
 -- ---- `open`: the refusals
 
-no-list : (x : ℕ) (xs : List ℕ) → x ∷ xs ≡ [] → ⊥
-no-list x xs e = let z : _≡_ {A = ℕ} 0 1 = cc in omega arith
-
 -- a refused call leaves the storage as it is
-pub open-declined : (file : List ℕ) (j : ℕ) (st lent : List ℕ) (r : Opened) (x : ℕ) (xs : List ℕ) → refusalOf r ≡ x ∷ xs
-    → x ∷ xs ≡ openRefusal file j (length st) (length lent) → OpenEnsures file j st lent r st
-open-declined file j st lent r x xs p e =
+pub open-declined : (file : List ℕ) (j : ℕ) (st lent : List ℕ) (r : Opened) (k : ℕ) (vs : List ℕ) → ofOpened r ≡ Refusal k vs
+    → Refusal k vs ≡ openReply file j (length st) (length lent) → OpenEnsures file j st lent r st
+open-declined file j st lent r k vs p e =
     record {
       refuses = p ∙ e;
       unchanged = λ w. refl;
       storage-kept = refl;
-      holds = λ h q. absurd (no-list x xs (sym p ∙ ap refusalOf q));
-      flag = λ h q. absurd (no-list x xs (sym p ∙ ap refusalOf q));
+      holds = λ h q. absurd (numbers-refusal _ _ _ (sym (ap ofOpened q) ∙ p));
+      flag = λ h q. absurd (numbers-refusal _ _ _ (sym (ap ofOpened q) ∙ p));
     }
 
 -- the tests that a file passes in turn
 module _ (file : List ℕ) where
-  pub header-bad : refuses 7 [] ≡ headerOf file → headed file ≡ false
+  pub header-bad : refusal 7 ≡ headerReply file → headed file ≡ false
   header-bad e = go (headed file) refl
     where
       go : (b : Bool) → headed file ≡ b → b ≡ false
       go true x = absurd (header-refused file e (headed-yes file x))
       go false x = refl
 
-  pub length-bad : refuses 7 [] ≡ lengthOf file → whole file ≡ false
+  pub length-bad : refusal 7 ≡ lengthReply file → whole file ≡ false
   length-bad e = go (whole file) refl
     where
       go : (b : Bool) → whole file ≡ b → b ≡ false
@@ -113,38 +112,38 @@ module _ (file : List ℕ) where
       go false x = refl
 
 module _ (file : List ℕ) (j n k : ℕ) where
-  pub refuse-header : headed file ≡ false → 7 ∷ [] ≡ openRefusal file j n k
-  unfolding openRefusal
+  pub refuse-header : headed file ≡ false → refusal 7 ≡ openReply file j n k
+  unfolding openReply
   refuse-header e = rw e
 
   module _ (h : Headed file) where
-    pub refuse-capacity : allowedCapacity (savedCapacity file) ≡ false → 1 ∷ [] ≡ openRefusal file j n k
-    unfolding openRefusal
+    pub refuse-capacity : allowedCapacity (savedCapacity file) ≡ false → refusal 1 ≡ openReply file j n k
+    unfolding openReply
     refuse-capacity e = rw (yes-headed file h, e)
 
     module _ (a : allowedCapacity (savedCapacity file) ≡ true) where
-      pub refuse-journal : 16384 < j → 1 ∷ [] ≡ openRefusal file j n k
-      unfolding openRefusal
+      pub refuse-journal : 16384 < j → refusal 1 ≡ openReply file j n k
+      unfolding openReply
       refuse-journal l = rw (yes-headed file h, a, lt-leb j 16384 l)
 
       module _ (l : j ≤ 16384) where
-        pub refuse-length : whole file ≡ false → 7 ∷ [] ≡ openRefusal file j n k
-        unfolding openRefusal
+        pub refuse-length : whole file ≡ false → refusal 7 ≡ openReply file j n k
+        unfolding openReply
         refuse-length e = rw (yes-headed file h, a, le-leb j 16384 l, e)
 
         module _ (w : Whole file) where
-          pub refuse-lent : lentEnough (savedWords file) j n k ≡ false → 3 ∷ [] ≡ openRefusal file j n k
-          unfolding openRefusal
+          pub refuse-lent : lentEnough (savedWords file) j n k ≡ false → refusal 3 ≡ openReply file j n k
+          unfolding openReply
           refuse-lent e = rw (yes-headed file h, a, le-leb j 16384 l, yes-whole file w, e)
 
           module _ (e : lentEnough (savedWords file) j n k ≡ true) where
-            pub refuse-run : (i : ℕ) → FirstBad file i → 8 ∷ i ∷ [] ≡ openRefusal file j n k
-            unfolding openRefusal
+            pub refuse-run : (i : ℕ) → FirstBad file i → Refusal 8 (i ∷ []) ≡ openReply file j n k
+            unfolding openReply
             refuse-run i b =
                 rw (yes-headed file h, a, le-leb j 16384 l, yes-whole file w, e, b .first, lt-ltb i (savedCount file) (b .below))
 
-            pub refuse-none : Ascending 0 (savedCapacity file) (savedRuns file) → [] ≡ openRefusal file j n k
-            unfolding openRefusal
+            pub refuse-none : Ascending 0 (savedCapacity file) (savedRuns file) → number 0 ≡ openReply file j n k
+            unfolding openReply
             refuse-none c =
                 rw (yes-headed file h, a, le-leb j 16384 l, yes-whole file w, e, le-ltb (firstBadRun file) (savedCount file) (omega (arith, ascending-count file c)))
 
@@ -197,7 +196,7 @@ module _ (file : List ℕ) (j : ℕ) (st lent : List ℕ) (h : Headed file) (a :
   unfolding setOf used savedPositions
   holds-all =
       record {
-        kept = kept-opened (savedCapacity file) j (savedPositions file) (λ i u. covered-above 0 (savedCapacity file) (savedRuns file) c i u);
+        reachable = reachable-opened (savedCapacity file) j (savedPositions file) (λ i u. covered-above 0 (savedCapacity file) (savedRuns file) c i u);
         lent = lent-again fresh openedHead (length st) (length lent) (length st′) (length lent) st′ (savedPositions file) fresh-lent
             (o .same-words) holds-file refl (omega arith) long refl;
         capacity = ap (λ (x : ℕ). 64 * x) (o .same-words);
@@ -211,8 +210,8 @@ module _ (file : List ℕ) (j : ℕ) (st lent : List ℕ) (h : Headed file) (a :
   opened-file =
       record {
         refuses = refuse-none file j (length st) (length lent) h a l w e c;
-        unchanged = λ z. absurd (z refl);
-        storage-kept = o .kept;
+        unchanged = λ z. absurd (z tt);
+        storage-kept = o .storage-kept;
         holds = λ x q. subst (λ (y : Ledger). Holds (memory y st′ lent) (openedWith (savedCapacity file) j (savedPositions file))) (same x q) holds-all;
         flag = λ x q. subst (λ (y : Ledger). y .set .allocated ≡ not (eqb (savedCount file) 0)) (same x q) begun-file;
       }
@@ -222,15 +221,15 @@ module _ (file : List ℕ) (j : ℕ) (st lent : List ℕ) (h : Headed file) (a :
 
 -- ---- the returns of `open`, from the answers that it has got by then
 
-module _ (file : List ℕ) (j : ℕ) (st lent : List ℕ) (header : Header) (header-is : headerAnswer header ≡ headerOf file) where
+module _ (file : List ℕ) (j : ℕ) (st lent : List ℕ) (header : Header) (header-is : ofHeader header ≡ headerReply file) where
   pub open-header : header ≡ BadHeader → OpenEnsures file j st lent (opened.Refused 7) st
   open-header q =
       open-declined file j st lent (opened.Refused 7) 7 [] refl
-      (refuse-header file j (length st) (length lent) (header-bad file (sym (ap headerAnswer q) ∙ header-is)))
+      (refuse-header file j (length st) (length lent) (header-bad file (sym (ap ofHeader q) ∙ header-is)))
 
   module _ (W count : ℕ) (fields : header ≡ Fields W count) (made-set : Made) (made-is : made-set ≡ setNew (64 * W)) where
     pub read : HeaderRead file W count
-    read = fields-read file W count (sym (ap headerAnswer fields) ∙ header-is)
+    read = fields-read file W count (sym (ap ofHeader fields) ∙ header-is)
 
     pub open-capacity : (k : ℕ) → made-set ≡ made.Refused k → OpenEnsures file j st lent (opened.Refused 1) st
     open-capacity k q =
@@ -249,16 +248,16 @@ module _ (file : List ℕ) (j : ℕ) (st lent : List ℕ) (header : Header) (hea
           open-declined file j st lent (opened.Refused 1) 1 [] refl
           (refuse-journal file j (length st) (length lent) (read .headed) allowed-file l)
 
-      module _ (l : j ≤ 16384) (long : LengthCheck) (long-is : lengthAnswer long ≡ lengthOf file) where
+      module _ (l : j ≤ 16384) (long : LengthCheck) (long-is : ofLengthCheck long ≡ lengthReply file) where
         pub open-length : long ≡ BadLength → OpenEnsures file j st lent (opened.Refused 7) st
         open-length q =
             open-declined file j st lent (opened.Refused 7) 7 [] refl
-            (refuse-length file j (length st) (length lent) (read .headed) allowed-file l (length-bad file (sym (ap lengthAnswer q) ∙ long-is)))
+            (refuse-length file j (length st) (length lent) (read .headed) allowed-file l (length-bad file (sym (ap ofLengthCheck q) ∙ long-is)))
 
         module _ (good : long ≡ GoodLength) (refused : ℕ)
             (refused-is : refused ≡ lentRefusal (record { set = set; journal = j; used = 0 }) (length st) (length lent)) where
           whole-file : Whole file
-          whole-file = length-whole file (sym (ap lengthAnswer good) ∙ long-is)
+          whole-file = length-whole file (sym (ap ofLengthCheck good) ∙ long-is)
 
           enough-file : (b : Bool) → eqb refused 0 ≡ b → lentEnough (savedWords file) j (length st) (length lent) ≡ b
           enough-file b q =
@@ -270,7 +269,7 @@ module _ (file : List ℕ) (j : ℕ) (st lent : List ℕ) (header : Header) (hea
               open-declined file j st lent (opened.Refused 3) 3 [] refl
               (refuse-lent file j (length st) (length lent) (read .headed) allowed-file l whole-file (enough-file false (ne-eqb refused 0 q)))
 
-          module _ (none-refused : refused ≡ 0) (checked : RunCheck) (checked-is : runsAnswer checked ≡ runsOf file) where
+          module _ (none-refused : refused ≡ 0) (checked : RunCheck) (checked-is : ofRunCheck checked ≡ runsReply file) where
             enough : lentEnough (savedWords file) j (length st) (length lent) ≡ true
             enough = enough-file true (eq-eqb refused 0 none-refused)
 
@@ -278,11 +277,11 @@ module _ (file : List ℕ) (j : ℕ) (st lent : List ℕ) (header : Header) (hea
             open-run i q =
                 open-declined file j st lent (opened.BadRun i) 8 (i ∷ []) refl
                 (refuse-run file j (length st) (length lent) (read .headed) allowed-file l whole-file enough i
-                (runs-refused file whole-file i (sym (ap runsAnswer q) ∙ checked-is)))
+                (runs-refused file whole-file i (sym (ap ofRunCheck q) ∙ checked-is)))
 
             pub open-done : checked ≡ AllGood → (h′ : RangeBitset) (st′ : List ℕ) → length st′ ≡ length st → OpensRuns set st file count h′ st′
                 → OpenEnsures file j st lent (opened.Head (record { set = h′; journal = j; used = 0 })) st′
             open-done q h′ st′ same o =
                 opened-file file j st lent (read .headed) allowed-file l whole-file enough
-                (runs-ascending file whole-file (sym (ap runsAnswer q) ∙ checked-is)) h′ st′ same
+                (runs-ascending file whole-file (sym (ap ofRunCheck q) ∙ checked-is)) h′ st′ same
                 (rw (fresh-set, read .count-read) at o)

@@ -17,7 +17,8 @@ use Rattle.positions.proofs.Bools.{same₄}
 use Rattle.positions.proofs.Runs.{runs-ascending, runs-empty}
 use Rattle.positions.proofs.Changes.{assignedRuns-then, back-changes, changed-lengths}
 use Rattle.range_bitset.specs.Represents.{Represents, capacityOf}
-use Rattle.range_bitset.specs.Answers.{Number, ofCounted, storageRefusal, rangeRefusal}
+use Rattle.positions.specs.Replies.{number}
+use Rattle.range_bitset.specs.Answers.{ofCounted, storageRefusal, rangeRefusal}
 use Rattle.range_bitset.specs.Entries.{AssignEnsures}
 use Rattle.range_bitset.specs.declared.RangeBitset.{RangeBitset}
 use Rattle.range_bitset.specs.declared.Assigned.{Assigned}
@@ -51,7 +52,7 @@ changed-last s (x ∷ xs) r v = omega (arith, changed-last (assigned s (x .start
 
 pub reassigns-none : (h : RangeBitset) (st : List ℕ) (v : Bool) → Reassigns h st [] v h st
 reassigns-none h st v =
-    record { same-words = refl; kept = refl; represents = λ z s t w. t; flag = λ z s t w. by (h .allocated) v }
+    record { same-words = refl; storage-kept = refl; represents = λ z s t w. t; flag = λ z s t w. by (h .allocated) v }
   where
     by : (x v : Bool) → x ≡ (x || (v && false))
     by true v = refl
@@ -61,7 +62,7 @@ reassigns-none h st v =
 pub assigns-none : (h : RangeBitset) (st : List ℕ) (v : Bool) → AssignsRuns h st [] v 0 h st
 assigns-none h st v = record { reassigns = reassigns-none h st v; changed = λ z s t w. refl }
 
-count-in : (r : Counted) (k : ℕ) → ofCounted r ≡ Number k → countIn r ≡ k
+count-in : (r : Counted) (k : ℕ) → ofCounted r ≡ number k → countIn r ≡ k
 count-in (counted.Count n) k e = cc
 count-in (counted.Refused n) k e = absurd (let z : _≡_ {A = ℕ} 0 1 = cc in omega arith)
 
@@ -89,7 +90,7 @@ module _ (h : RangeBitset) (st : List ℕ) (rs : List Run) (v : Bool) (h₁ : Ra
   reassigns-more =
       record {
         same-words = e .same-words ∙ p .same-words;
-        kept = (rw (p .same-words) at (e .kept)) ∙ p .kept;
+        storage-kept = (rw (p .same-words) at (e .storage-kept)) ∙ p .storage-kept;
         represents = λ z s t w. rw (assignedRuns-then s rs r v) (e .represents (ok z s t w) (assignedRuns s rs v) (before z s t w));
         flag = flag-after;
       }
@@ -153,10 +154,10 @@ module _ (h : RangeBitset) (st file : List ℕ) (n i : ℕ) (h′ : RangeBitset)
 
   pub opens-all : i ≡ n → OpensRuns h st file n h′ st′
   opens-all e =
-      record { same-words = p .same-words; kept = p .kept; reassigns = λ w. subst (λ (k : ℕ). Reassigns h st (fileRuns file k) true h′ st′) e p }
+      record { same-words = p .same-words; storage-kept = p .storage-kept; reassigns = λ w. subst (λ (k : ℕ). Reassigns h st (fileRuns file k) true h′ st′) e p }
 
   pub opens-short : heldCount file ≤ i → i < n → OpensRuns h st file n h′ st′
-  opens-short k l = record { same-words = p .same-words; kept = p .kept; reassigns = λ w. absurd (omega arith) }
+  opens-short k l = record { same-words = p .same-words; storage-kept = p .storage-kept; reassigns = λ w. absurd (omega arith) }
 
 -- ---- ascending runs
 

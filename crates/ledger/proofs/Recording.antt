@@ -7,23 +7,26 @@ use Prim.Native.Nat.{ℕ, _+_, _*_, _-_, _/_, _≤_, _<_}
 use native.Mathlib.Omega.{arith}
 use borrow.Author.Tests.{le-leb, lt-leb, leb-true, leb-false, eq-eqb, ne-eqb}
 use lib.ListN.{length, take}
+use Rattle.positions.proofs.Replies.{accepted-refused}
 use Rattle.positions.specs.Positions.{Positions, assigned}
 use Rattle.positions.specs.Runs.{changedRuns}
+use Rattle.range_bitset.proofs.Slots.{past-same}
 use Rattle.range_bitset.specs.Represents.{Represents, capacityOf}
-use Rattle.range_bitset.specs.Answers.{Refusal, ofCounted, rangeRefusal}
+use Rattle.positions.specs.Replies.{refusal}
+use Rattle.range_bitset.specs.Answers.{ofCounted, rangeRefusal}
 use Rattle.range_bitset.specs.Entries.{AssignEnsures}
 use Rattle.range_bitset.specs.declared.RangeBitset.{RangeBitset}
 use Rattle.range_bitset.specs.declared.Assigned.{Assigned}
 use Rattle.range_bitset.specs.declared.Counted.{Counted}
 use Rattle.range_bitset.specs.declared.Counted.the-variants as counted
-use Rattle.range_bitset.proofs.Heads.{accepted-refused, range-accepts}
+use Rattle.range_bitset.proofs.Heads.{range-accepts}
 use Rattle.ledger.specs.Machine.{Machine, Range, setOf, used, needOf, step, nextOf}
 use Rattle.ledger.specs.Journal.{journalOf}
 use Rattle.ledger.specs.Memory.{Memory, memory, lentRefusal, callRefusal, Holds}
 use Rattle.ledger.specs.Entries.{CallEnsures, flagAfter, mostNeed}
 use Rattle.ledger.specs.Inner.{RunsFit, WritesCall}
 use Rattle.ledger.specs.declared.Ledger.{Ledger}
-use Rattle.ledger.proofs.Machines.{stayed, went, step-outside, step-full, step-range, kept-step, set-after-range, needs-added, journal-added}
+use Rattle.ledger.proofs.Machines.{stayed, went, step-outside, step-full, step-range, reachable-step, set-after-range, needs-added, journal-added}
 use Rattle.ledger.proofs.Refusals.{declined-as, refused-call, LentEnough, lent-accepted, set-accepts, lent-again}
 
 module _ (h : Ledger) (st j : List ℕ) (a e : ℕ) (v : Bool) where
@@ -78,7 +81,7 @@ module _ (h : Ledger) (st j : List ℕ) (a e : ℕ) (v : Bool) where
   full r h′ p q l n six more some =
       declined-as (Range a e v) h st j 6 r h′ p q
       (record {
-        refuses = λ z. ap Refusal (sym (six z));
+        refuses = λ z. ap refusal (sym (six z));
         only-6 = λ z. inr (refl, refl);
         exactly-6 = λ z s x. sym (ap (λ (b : Bool). cond b 0 6) (lt-leb (needOf s a e v) (h .journal - h .used) (more s x)));
         short-6 = λ z o. absurd (some o);
@@ -163,7 +166,7 @@ module _ (h : Ledger) (st j : List ℕ) (a e : ℕ) (v : Bool) where
     holds-next : (m : Machine) → Holds before m → Holds next (nextOf m (Range a e v))
     holds-next m x =
         record {
-          kept = rw (goes m x) at (kept-step m (Range a e v) (x .kept));
+          reachable = rw (goes m x) at (reachable-step m (Range a e v) (x .reachable));
           lent = lent-again h (moved (r .head) u′) (length st) (length j) (length st′) (length j′) st′ (assigned (setOf m) a e v) enough
               (changes .same-words) (set-next m x) refl room same-storage same-journal;
           capacity = ap (λ (n : ℕ). 64 * n) (changes .same-words) ∙ x .capacity;
@@ -191,7 +194,7 @@ module _ (h : Ledger) (st j : List ℕ) (a e : ℕ) (v : Bool) where
           same-words = changes .same-words;
           same-limit = refl;
           used-most = λ z. room;
-          storage-kept = changes .kept;
+          storage-kept = past-same _ _ (changes .same-words) (changes .storage-kept);
           journal-kept = writes .others;
           answers = λ m x. rw (goes m x) (changes .answers passes (setOf m) (x .set));
           holds = λ m x. rw (goes m x) (holds-next m x);

@@ -11,7 +11,8 @@ use Rattle.positions.proofs.Bools.{and-left, and-right}
 use Rattle.positions.specs.Positions.{Positions}
 use Rattle.range_bitset.specs.Layout.{needed}
 use Rattle.range_bitset.specs.Represents.{Represents}
-use Rattle.range_bitset.specs.Answers.{Refusal, ofCounted, allowedCapacity, goodHead, storageRefusal}
+use Rattle.positions.specs.Replies.{refusal}
+use Rattle.range_bitset.specs.Answers.{ofCounted, allowedCapacity, goodHead, storageRefusal}
 use Rattle.range_bitset.specs.declared.Counted.{Counted}
 use Rattle.range_bitset.specs.declared.Counted.the-variants as counted
 use Rattle.range_bitset.proofs.Heads.{good-bounds, storage-accepted, accepted-storage, storage-bad, storage-good, storage-short, represented-good, fresh-good}
@@ -24,16 +25,16 @@ use Rattle.ledger.proofs.Machines.{stayed}
 -- ---- the answer and the head as `declined` gives them
 
 pub declined-as : (c : Call) (h : Ledger) (st j : List ℕ) (k : ℕ) (r : Counted) (h′ : Ledger) → r ≡ counted.Refused k → h′ ≡ h
-    → CallEnsures c (memory h st j) (Refusal k) (memory h st j) → CallEnsures c (memory h st j) (ofCounted r) (memory h′ st j)
+    → CallEnsures c (memory h st j) (refusal k) (memory h st j) → CallEnsures c (memory h st j) (ofCounted r) (memory h′ st j)
 declined-as c h st j k r h′ p q d = rw (p, q) d
 
 -- ---- a call that the table refuses, given that the machine refuses it too
 
 pub refused-call : (c : Call) (x : Memory) (k : ℕ) → k ≡ callRefusal c x → (k ≡ 0 → ⊥)
-    → ((m : Machine) → Holds x m → step m c ≡ stayed m k) → CallEnsures c x (Refusal k) x
+    → ((m : Machine) → Holds x m → step m c ≡ stayed m k) → CallEnsures c x (refusal k) x
 refused-call c x k e z f =
     record {
-      refuses = λ w. ap Refusal e;
+      refuses = λ w. ap refusal e;
       only-6 = λ w. absurd (z (e ∙ w));
       exactly-6 = λ w. absurd (z (e ∙ w));
       short-6 = λ w. absurd (z (e ∙ w));
@@ -48,7 +49,7 @@ refused-call c x k e z f =
       flag = λ m q. same m c;
     }
   where
-    same : (m : Machine) (c : Call) → x .head .set .allocated ≡ flagAfter (x .head .set .allocated) m c (Refusal k)
+    same : (m : Machine) (c : Call) → x .head .set .allocated ≡ flagAfter (x .head .set .allocated) m c (refusal k)
     same m (Range a e v) = refl
     same m Back = refl
     same m Wipe = refl

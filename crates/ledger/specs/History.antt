@@ -5,11 +5,12 @@ use mathlib.Core.List.{List, [], _∷_}
 use Prim.Native.Nat.{ℕ, _+_, _≤_, _<_}
 use lib.ListN.{length}
 use Rattle.positions.specs.Positions.{count, first, one}
-use Rattle.range_bitset.specs.Answers.{Reply, Number, ofFound, ofCounted, ofTested, ofPlace}
+use Rattle.positions.specs.Replies.{Reply, number, ofPlace}
+use Rattle.range_bitset.specs.Answers.{ofCounted, ofTested, ofFound}
 use Rattle.range_bitset.specs.Entries.{GetEnsures, CountEnsures, NextEnsures}
 use Rattle.range_bitset.specs.declared.Tested.{Tested}
 use Rattle.range_bitset.specs.declared.Counted.{Counted}
-use Rattle.range_bitset.specs.declared.Found.{Found as Place}
+use Rattle.range_bitset.specs.declared.Found.{Found}
 use Rattle.saved_list.specs.Format.{savedCapacity, savedPositions}
 use Rattle.ledger.specs.Machine.{Machine, fresh, openedWith, Call, Outcome, after, setOf, population, used, changedBy}
 use Rattle.ledger.specs.Memory.{Memory, memory}
@@ -36,13 +37,13 @@ pub record Agrees (o : Outcome) (replies : List Reply) (x : Memory) : Type 0 whe
   pub answers : replies ≡ o .answers
   -- `get` at every position; `count` and both searches over every start..end within capacity
   pub gets : (i : ℕ) → i < o .last .capacity → (r : Tested) → GetEnsures (x .head .set) (x .storage) i r
-      → ofTested r ≡ Number (one (setOf (o .last) i))
+      → ofTested r ≡ number (one (setOf (o .last) i))
   pub counts : (a e : ℕ) → e ≤ o .last .capacity → (r : Counted) → CountEnsures (x .head .set) (x .storage) a e r
-      → ofCounted r ≡ Number (count (setOf (o .last)) a e)
-  pub ones : (a e : ℕ) → e ≤ o .last .capacity → (r : Place) → NextEnsures true (x .head .set) (x .storage) a e r
-      → ofPlace r ≡ ofFound (first (setOf (o .last)) true a e)
-  pub zeros : (a e : ℕ) → e ≤ o .last .capacity → (r : Place) → NextEnsures false (x .head .set) (x .storage) a e r
-      → ofPlace r ≡ ofFound (first (setOf (o .last)) false a e)
+      → ofCounted r ≡ number (count (setOf (o .last)) a e)
+  pub ones : (a e : ℕ) → e ≤ o .last .capacity → (r : Found) → NextEnsures true (x .head .set) (x .storage) a e r
+      → ofFound r ≡ ofPlace (first (setOf (o .last)) true a e)
+  pub zeros : (a e : ℕ) → e ≤ o .last .capacity → (r : Found) → NextEnsures false (x .head .set) (x .storage) a e r
+      → ofFound r ≡ ofPlace (first (setOf (o .last)) false a e)
   -- the head's population, the machine's and demand 3's sum; journal use
   pub population-agrees : x .head .set .len ≡ population (o .last)
   pub population-sum : x .head .set .len + changedBy false (o .last .standing)

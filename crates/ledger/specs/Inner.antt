@@ -6,17 +6,17 @@ use mathlib.Core.Bool.{Bool, true, false, _&&_, _||_, cond}
 use mathlib.Core.List.{List, [], _∷_, _++_}
 use Prim.Native.Nat.{ℕ, zero, suc, _+_, _*_, _-_, _/_, _%_, _≤_, _<_, min}
 use lib.Dec.{eqb, ltb, leb}
-use lib.ListN.{length, getD, take, drop}
+use lib.ListN.{length, getD, take}
 use Rattle.positions.specs.Positions.{Positions, assigned, first, changedCount}
 use Rattle.positions.specs.Runs.{Run, run, placeOr, changedRuns, assignedRuns}
-use Rattle.range_bitset.specs.Layout.{needed}
+use Rattle.range_bitset.specs.Layout.{SamePast}
 use Rattle.range_bitset.specs.Represents.{Represents, capacityOf}
 use Rattle.range_bitset.specs.Answers.{rangeRefusal, storageRefusal}
 use Rattle.range_bitset.specs.declared.RangeBitset.{RangeBitset}
 use Rattle.range_bitset.specs.declared.Counted.{Counted}
 use Rattle.range_bitset.specs.declared.Counted.the-variants as counted
-use Rattle.range_bitset.specs.declared.Found.{Found as Place}
-use Rattle.range_bitset.specs.declared.Found.the-variants as place
+use Rattle.range_bitset.specs.declared.Found.{Found}
+use Rattle.range_bitset.specs.declared.Found.the-variants as found
 use Rattle.saved_list.specs.Format.{runsAfter, heldCount}
 use Rattle.ledger.specs.Machine.{needOf}
 use Rattle.ledger.specs.declared.Last.{Last}
@@ -78,7 +78,7 @@ anyRun (r ∷ rs) = ltb (r .start) (r .end) || anyRun rs
 -- the runs given the value v, one after the other: h and st before, h′ and st′ after
 pub record Reassigns (h : RangeBitset) (st : List ℕ) (rs : List Run) (v : Bool) (h′ : RangeBitset) (st′ : List ℕ) : Type 0 where
   pub same-words : h′ .words ≡ h .words
-  pub kept : drop (needed (h .words)) st′ ≡ drop (needed (h .words)) st
+  pub storage-kept : SamePast (h .words) st st′
   pub represents : storageRefusal h (length st) ≡ 0 → (s : Positions) → Represents h st s → Within (capacityOf h) rs
       → Represents h′ st′ (assignedRuns s rs v)
   pub flag : storageRefusal h (length st) ≡ 0 → (s : Positions) → Represents h st s → Within (capacityOf h) rs
@@ -99,15 +99,15 @@ fileRuns file n = runsAfter file 0 n
 -- the first n runs of a file that holds so many, set one after the other
 pub record OpensRuns (h : RangeBitset) (st file : List ℕ) (n : ℕ) (h′ : RangeBitset) (st′ : List ℕ) : Type 0 where
   pub same-words : h′ .words ≡ h .words
-  pub kept : drop (needed (h .words)) st′ ≡ drop (needed (h .words)) st
+  pub storage-kept : SamePast (h .words) st st′
   pub reassigns : n ≤ heldCount file → Reassigns h st (fileRuns file n) true h′ st′
 
 -- ---- small readings of the answers
 
-abbrev pub placeIn : Place → ℕ → ℕ
-placeIn (place.At i) e = i
-placeIn place.Nothing e = e
-placeIn (place.Refused k) e = e
+abbrev pub foundIn : Found → ℕ → ℕ
+foundIn (found.At i) e = i
+foundIn found.Nothing e = e
+foundIn (found.Refused k) e = e
 
 abbrev pub countIn : Counted → ℕ
 countIn (counted.Count n) = n

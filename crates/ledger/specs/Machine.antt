@@ -9,9 +9,9 @@ use lib.Dec.{leb}
 use lib.ListN.{length}
 use Rattle.positions.specs.Positions.{Positions, none, assigned, count, changedCount, differ}
 use Rattle.positions.specs.Runs.{changedRuns}
-use Rattle.range_bitset.specs.Answers.{Reply, Number, Refusal}
+use Rattle.positions.specs.Replies.{Reply, number, refusal}
 
--- 01's standing call: start, end, value, with its changed count and the journal numbers that it needed when made
+-- 01's standing call: start, end, value, with its changed count and the journal numbers that it needed when standingCall
 pub record Standing : Type 0 where
   pub start : ℕ
   pub end : ℕ
@@ -19,7 +19,7 @@ pub record Standing : Type 0 where
   pub changed : ℕ
   pub needed : ℕ
 
--- what the machine keeps; the last call made stands first in the list
+-- what the machine keeps; the last call standingCall stands first in the list
 pub record Machine : Type 0 where
   pub capacity : ℕ
   pub journal : ℕ
@@ -60,9 +60,9 @@ population m = count (setOf m) 0 (m .capacity)
 unfoldable pub needOf : Positions → ℕ → ℕ → Bool → ℕ
 needOf s a e v = 1 + 2 * length (changedRuns s a e v)
 
--- the call as it stands once made over the set s
-unfoldable pub made : Positions → ℕ → ℕ → Bool → Standing
-made s a e v = record { start = a; end = e; value = v; changed = changedCount s a e v; needed = needOf s a e v }
+-- the call as it stands once standingCall over the set s
+unfoldable pub standingCall : Positions → ℕ → ℕ → Bool → Standing
+standingCall s a e v = record { start = a; end = e; value = v; changed = changedCount s a e v; needed = needOf s a e v }
 
 -- the needs of all standing calls
 abbrev pub needs : List Standing → ℕ
@@ -75,7 +75,7 @@ used m = needs (m .standing)
 -- ---- what is refused
 
 pub data Verdict : Type 0 where
-  Accepted : Verdict
+  Admitted : Verdict
   Declined : ℕ → Verdict
 
 abbrev pub unless : Bool → ℕ → Verdict → Verdict
@@ -85,17 +85,17 @@ unless false k next = Declined k
 -- not within capacity: 4; needing more than J less the needs of all standing calls: 6
 unfoldable pub rangeVerdict : Machine → ℕ → ℕ → Bool → Verdict
 rangeVerdict m a e v =
-    unless (leb e (m .capacity)) 4 (unless (leb (needOf (setOf m) a e v) (m .journal - used m)) 6 Accepted)
+    unless (leb e (m .capacity)) 4 (unless (leb (needOf (setOf m) a e v) (m .journal - used m)) 6 Admitted)
 
 -- take-back with no call standing: 5
 abbrev pub standsAny : List Standing → Verdict
 standsAny [] = Declined 5
-standsAny (c ∷ cs) = Accepted
+standsAny (c ∷ cs) = Admitted
 
 abbrev pub verdict : Machine → Call → Verdict
 verdict m (Range a e v) = rangeVerdict m a e v
 verdict m Back = standsAny (m .standing)
-verdict m Wipe = Accepted
+verdict m Wipe = Admitted
 
 -- ---- what an accepted call answers
 
@@ -124,7 +124,7 @@ rest (c ∷ cs) = cs
 
 -- a marking or clearing is appended, changing or not; take-back drops the last call; wipe empties opened set and list
 abbrev pub nextOf : Machine → Call → Machine
-nextOf m (Range a e v) = withStanding m (added (made (setOf m) a e v) (m .standing))
+nextOf m (Range a e v) = withStanding m (added (standingCall (setOf m) a e v) (m .standing))
 nextOf m Back = withStanding m (rest (m .standing))
 nextOf m Wipe = fresh (m .capacity) (m .journal)
 
@@ -136,8 +136,8 @@ pub record Step : Type 0 where
 
 -- a refused call leaves the machine as it is
 abbrev pub decided : Verdict → Machine → Call → Step
-decided Accepted m c = record { next = nextOf m c; answer = Number (amount m c) }
-decided (Declined k) m c = record { next = m; answer = Refusal k }
+decided Admitted m c = record { next = nextOf m c; answer = number (amount m c) }
+decided (Declined k) m c = record { next = m; answer = refusal k }
 
 unfoldable pub step : Machine → Call → Step
 step m c = decided (verdict m c) m c
@@ -163,18 +163,18 @@ changedBy v (c ∷ cs) = cond (differ (c .value) v) 0 (c .changed) + changedBy v
 
 -- ---- the machines that a list of calls gives
 
--- a standing call is as it was made over the set s, and lies within the capacity
+-- a standing call is as it was standingCall over the set s, and lies within the capacity
 pub record Stands (capacity : ℕ) (s : Positions) (c : Standing) : Type 0 where
   pub within : c .end ≤ capacity
-  pub as-made : c ≡ made s (c .start) (c .end) (c .value)
+  pub as-made : c ≡ standingCall s (c .start) (c .end) (c .value)
 
 -- each standing call over the set that the calls before it give
-abbrev pub Made : ℕ → Positions → List Standing → Type 0
-Made capacity o [] = Unit {0}
-Made capacity o (c ∷ cs) = Stands capacity (held o cs) c × Made capacity o cs
+abbrev pub StandAll : ℕ → Positions → List Standing → Type 0
+StandAll capacity o [] = Unit {0}
+StandAll capacity o (c ∷ cs) = Stands capacity (held o cs) c × StandAll capacity o cs
 
--- a machine that a list of calls gives: laws `kept-after` and `kept-reached` in proofs/Machines
-pub record Kept (m : Machine) : Type 0 where
+-- a machine that a list of calls gives: laws `reachable-after` and `reachable-reached` in proofs/Machines
+pub record Reachable (m : Machine) : Type 0 where
   pub inside : (i : ℕ) → m .capacity ≤ i → m .opened i ≡ false
-  pub standing : Made (m .capacity) (m .opened) (m .standing)
+  pub standing : StandAll (m .capacity) (m .opened) (m .standing)
   pub room : needs (m .standing) ≤ m .journal

@@ -8,7 +8,7 @@ use lib.ListN.{length, take}
 use Rattle.range_bitset.specs.Layout.{needed}
 use Rattle.range_bitset.specs.Represents.{Represents, capacityOf}
 use Rattle.range_bitset.specs.Answers.{goodHead, firstOf}
-use Rattle.ledger.specs.Machine.{Machine, setOf, used, Call, Range, Back, Wipe, Kept}
+use Rattle.ledger.specs.Machine.{Machine, setOf, used, Call, Range, Back, Wipe, Reachable}
 use Rattle.ledger.specs.Journal.{journalOf}
 use Rattle.ledger.specs.declared.Ledger.{Ledger}
 
@@ -55,7 +55,7 @@ callRefusal Wipe x = wipeRefusal (x .head) (length (x .storage))
 
 -- the memory holds the machine's state: the set, and the journal that its standing calls give
 pub record Holds (x : Memory) (m : Machine) : Type 0 where
-  pub kept : Kept m
+  pub reachable : Reachable m
   pub lent : lentRefusal (x .head) (length (x .storage)) (length (x .journal)) ≡ 0
   pub capacity : capacityOf (x .head .set) ≡ m .capacity
   pub journal-length : x .head .journal ≡ m .journal

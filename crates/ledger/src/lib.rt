@@ -12,7 +12,7 @@ ghost use Rattle.range_bitset.specs.declared.Counted.the-variants as counted;
 ghost use Rattle.ledger.specs.Machine.{Range, Back, Wipe, point};
 ghost use Rattle.ledger.specs.Memory.{refusalFor};
 ghost use Rattle.ledger.specs.Entries.{CalledEnsures, newOf, OpenEnsures};
-ghost use Rattle.ledger.specs.Inner.{Finds, RunsFit, CountsRuns, WritesCall, WritesRuns, readRuns, AssignsRuns, OpensRuns, lastOf, placeIn, countIn};
+ghost use Rattle.ledger.specs.Inner.{Finds, RunsFit, CountsRuns, WritesCall, WritesRuns, readRuns, AssignsRuns, OpensRuns, lastOf, foundIn, countIn};
 use range_bitset::Counted;
 use range_bitset::Found;
 use range_bitset::Made;
@@ -458,7 +458,7 @@ impl Ledger {
     }
 
     fn place_or(found: Found, end: usize) -> usize
-        ensures { λ r. ⌜ r ≡ placeIn found end ⌝ }
+        ensures { λ r. ⌜ r ≡ foundIn found end ⌝ }
     {
         match found {
             Found::At(i) => i,

@@ -3,7 +3,7 @@ use mathlib.Core.Path.{_≡_, sym, subst}
 use mathlib.Core.Bool.{Bool}
 use mathlib.Core.List.{[], _∷_}
 use Prim.Native.Nat.{ℕ}
-use Rattle.range_bitset.specs.Answers.{Reply}
+use Rattle.positions.specs.Replies.{Reply}
 use Rattle.ledger.specs.Machine.{Machine, Call, Range, after}
 use Rattle.ledger.specs.Memory.{Memory}
 use Rattle.ledger.specs.Entries.{CallEnsures}

@@ -31,7 +31,7 @@ pub fn assign(
 }
 
 // Mark or clear every position in `start..end`.
-pub fn mark_lent(
+pub fn assign_lent(
     head: &mut Ledger,
     storage: &mut [u64],
     journal: &mut [u32],
@@ -65,7 +65,7 @@ pub fn wipe_lent(head: &mut Ledger, storage: &mut [u64]) -> Counted
 }
 
 // The lent form of marking behind a by-value one, so that covered code can run it.
-pub fn mark_through(
+pub fn assign_through(
     head: Ledger,
     storage: &mut [u64],
     journal: &mut [u32],
@@ -76,7 +76,7 @@ pub fn mark_through(
     ensures { λ out. ⌜ CalledEnsures (Range start end value) head (now (storage .entry)) (now (journal .entry)) (now (storage .exit)) (now (journal .exit)) out ⌝ }
 {
     let mut lent = head;
-    let answer = mark_lent(&mut lent, storage, journal, start, end, value);
+    let answer = assign_lent(&mut lent, storage, journal, start, end, value);
     Called { answer, head: lent }
 }
 
@@ -107,7 +107,7 @@ pub struct Two {
 
 // A marking or clearing by value, then take-back in the lent form. Its promise is a chain of both calls, so demand 3 speaks of
 // it: a chain may mix the forms, since a call of either has the same promise.
-pub fn mark_then_back(
+pub fn assign_then_back(
     head: Ledger,
     storage: &mut [u64],
     journal: &mut [u32],

@@ -7,13 +7,14 @@ use native.Mathlib.Omega.{arith}
 use borrow.Author.Tests.{ne-eqb}
 use lib.ListN.{length, getD, drop, set}
 use lib.Seq.{take-suc-set, drop-set-lt, drop-drop}
-use Rattle.range_bitset.specs.Answers.{Reply}
+use Rattle.positions.proofs.Replies.{numbers-refusal}
+use Rattle.positions.specs.Replies.{Reply, Accepted}
 use Rattle.saved_list.specs.Format.{savedCapacity, savedPositions}
 use Rattle.ledger.specs.Machine.{Machine, fresh, openedWith, Call, Wipe}
 use Rattle.ledger.specs.Memory.{Memory, memory, Holds}
-use Rattle.ledger.specs.Entries.{CallEnsures, newOf, refusalOf, OpenEnsures}
+use Rattle.ledger.specs.Entries.{CallEnsures, newOf, ofOpened, OpenEnsures}
 use Rattle.ledger.specs.History.{by-new, Chain, none, call}
-use Rattle.ledger_replay.specs.Replay.{Encoded, callOf, callsTo, fitting, codeOf, refusalIn, Replays, GivenByNew, GivenByOpen, ReplaysNew, ReplaysOpen}
+use Rattle.ledger_replay.specs.Replay.{Encoded, callOf, callsTo, fitting, codeOf, ofReplayed, Replays, GivenByNew, GivenByOpen, ReplaysNew, ReplaysOpen}
 use Rattle.ledger_replay.specs.Inner.{Chained, Continues}
 use Rattle.ledger.specs.declared.Ledger.{Ledger}
 use Rattle.ledger.specs.declared.Opened.{Opened}
@@ -81,7 +82,7 @@ module _ (l : Encoded) (st journal answers : List ℕ) where
   continues-ran start h n st′ journal′ answers′ e k =
       record {
         refuses = refl;
-        unchanged = λ z. absurd (z refl);
+        unchanged = λ z. absurd (z tt);
         ran =
             λ h₁ n₁ p. (
               sym (ap ranIn p) ∙ e,
@@ -96,7 +97,7 @@ module _ (l : Encoded) (st journal answers : List ℕ) where
       record {
         refuses = refl;
         unchanged = λ z. (refl, refl, refl);
-        ran = λ h n p. absurd (omega (arith, ap (λ (x : Replayed). length (refusalIn x)) p));
+        ran = λ h n p. absurd (numbers-refusal _ _ _ (sym (ap ofReplayed p)));
       }
 
   pub continues-bad : (i : ℕ) → Continues (opened.BadRun i) l st journal answers (replayed.BadRun i) st journal answers
@@ -104,7 +105,7 @@ module _ (l : Encoded) (st journal answers : List ℕ) where
       record {
         refuses = refl;
         unchanged = λ z. (refl, refl, refl);
-        ran = λ h n p. absurd (omega (arith, ap (λ (x : Replayed). length (refusalIn x)) p));
+        ran = λ h n p. absurd (numbers-refusal _ _ _ (sym (ap ofReplayed p)));
       }
 
 pub continued : (o o₁ : Opened) (l : Encoded) (st journal answers : List ℕ) (r : Replayed) (st′ journal′ answers′ : List ℕ) → o ≡ o₁
@@ -112,23 +113,23 @@ pub continued : (o o₁ : Opened) (l : Encoded) (st journal answers : List ℕ) 
 continued o o₁ l st journal answers r st′ journal′ answers′ e k =
     subst (λ (x : Opened). Continues x l st journal answers r st′ journal′ answers′) (sym e) k
 
-head-of : (o : Opened) → refusalOf o ≡ [] → (h : Ledger) × (o ≡ opened.Head h)
+head-of : (o : Opened) → Accepted (ofOpened o) → (h : Ledger) × (o ≡ opened.Head h)
 head-of (opened.Head h) e = (h, refl)
-head-of (opened.Refused k) e = absurd (omega (arith, ap (λ (x : List ℕ). length x) e))
-head-of (opened.BadRun i) e = absurd (omega (arith, ap (λ (x : List ℕ). length x) e))
+head-of (opened.Refused k) e = absurd e
+head-of (opened.BadRun i) e = absurd e
 
 -- st is the storage before new or open, st₁ after
 module _ (Given : Memory → Type 0) (m : Machine) (l : Encoded) (st st₁ journal answers : List ℕ) (o : Opened) (r : Replayed) (st′ journal′ answers′ : List ℕ) where
   replays : ((start : Ledger) → o ≡ opened.Head start → Given (memory start st₁ journal) × Holds (memory start st₁ journal) m)
-      → ((refusalOf o ≡ [] → ⊥) → st₁ ≡ st) → Continues o l st₁ journal answers r st′ journal′ answers′
-      → Replays (refusalOf o) Given m l st journal answers r st′ journal′ answers′
+      → ((Accepted (ofOpened o) → ⊥) → st₁ ≡ st) → Continues o l st₁ journal answers r st′ journal′ answers′
+      → Replays (ofOpened o) Given m l st journal answers r st′ journal′ answers′
   replays accepted same k =
       record {
         refuses = k .refuses;
-        unchanged = λ z. let w : refusalOf o ≡ [] → ⊥ = λ p. z (k .refuses ∙ p) in
+        unchanged = λ z. let w : Accepted (ofOpened o) → ⊥ = λ p. z (subst Accepted (sym (k .refuses)) p) in
             let u = k .unchanged w in (u .0 ∙ same w, u .1, u .2);
         ran =
-            λ h n p. let q = head-of o (sym (k .refuses) ∙ ap refusalIn p) in
+            λ h n p. let q = head-of o (subst Accepted (sym (ap ofReplayed p) ∙ k .refuses) tt) in
             let t : Chained n (memory (q .0) st₁ journal) l answers answers′ (memory h st′ journal′) = k .ran h n p .1 (q .0) (q .1) in
             let a = accepted (q .0) (q .1) in
             record {
@@ -147,8 +148,8 @@ pub replays-new : (capacity j : ℕ) (l : Encoded) (st journal answers : List �
     → o ≡ newOf capacity j (length st) (length journal) → Continues o l st journal answers r st′ journal′ answers′
     → ReplaysNew capacity j l st journal answers r st′ journal′ answers′
 replays-new capacity j l st journal answers o r st′ journal′ answers′ e k =
-    subst (λ (x : List ℕ). Replays x (GivenByNew capacity j st journal) (fresh capacity j) l st journal answers r st′ journal′ answers′)
-    (ap refusalOf e)
+    subst (λ (x : Reply). Replays x (GivenByNew capacity j st journal) (fresh capacity j) l st journal answers r st′ journal′ answers′)
+    (ap ofOpened e)
     (replays (GivenByNew capacity j st journal) (fresh capacity j) l st st journal answers o r st′ journal′ answers′
     (λ start p. ((sym e ∙ p, refl, refl), begun (memory start st journal) (fresh capacity j) (by-new (sym e ∙ p)))) (λ z. refl) k)
 
@@ -157,6 +158,6 @@ pub replays-open : (file : List ℕ) (j : ℕ) (l : Encoded) (st st₁ journal a
     → ReplaysOpen file j l st journal answers r st′ journal′ answers′
 replays-open file j l st st₁ journal answers o r st′ journal′ answers′ e k =
     let m : Machine = openedWith (savedCapacity file) j (savedPositions file) in
-    subst (λ (x : List ℕ). Replays x (GivenByOpen file j st journal) m l st journal answers r st′ journal′ answers′) (e .refuses)
+    subst (λ (x : Reply). Replays x (GivenByOpen file j st journal) m l st journal answers r st′ journal′ answers′) (e .refuses)
     (replays (GivenByOpen file j st journal) m l st st₁ journal answers o r st′ journal′ answers′
     (λ start p. ((subst (λ (x : Opened). OpenEnsures file j st journal x st₁) p e, refl), e .holds start p)) (e .unchanged) k)

@@ -6,11 +6,11 @@ use mathlib.Core.List.{List, [], _∷_, _++_, map}
 use Prim.Native.Nat.{ℕ, zero, suc, _+_, min}
 use lib.Dec.{eqb}
 use lib.ListN.{length, getD, take, drop}
-use Rattle.range_bitset.specs.Answers.{Reply, Number, Nothing, Refusal}
+use Rattle.positions.specs.Replies.{Reply, Numbers, Refusal, number, refusal, Accepted}
 use Rattle.saved_list.specs.Format.{savedCapacity, savedPositions}
 use Rattle.ledger.specs.Machine.{Machine, fresh, openedWith, Call, Range, Back, Wipe, point, after}
 use Rattle.ledger.specs.Memory.{Memory, memory}
-use Rattle.ledger.specs.Entries.{newOf, refusalOf, openRefusal, OpenEnsures}
+use Rattle.ledger.specs.Entries.{newOf, ofOpened, openReply, OpenEnsures}
 use Rattle.ledger.specs.History.{Chain, Agrees}
 use Rattle.ledger.specs.declared.Ledger.{Ledger}
 use Rattle.ledger.specs.declared.Opened.the-variants as opened
@@ -42,11 +42,11 @@ callsTo l (suc i) = callsTo l i ++ callOf (getD (l .kinds) i 0) (getD (l .starts
 abbrev pub fitting : Encoded → ℕ → ℕ
 fitting l answers = min (min (length (l .kinds)) (length (l .starts))) (min (length (l .ends)) answers)
 
--- a reply as a number: a count as it is, a refusal above every count; no call answers `Nothing`
+-- a reply as a number: a count as it is, a refusal above every count; every accepted call answers one number
 abbrev pub codeOf : Reply → ℕ
-codeOf (Number n) = n
-codeOf Nothing = 4294967296
-codeOf (Refusal k) = 4294967296 + k
+codeOf (Numbers []) = 4294967296
+codeOf (Numbers (n ∷ ns)) = n
+codeOf (Refusal k vs) = 4294967296 + k
 
 -- ---- the promise
 
@@ -62,17 +62,17 @@ pub record RanAll (Given : Memory → Type 0) (m : Machine) (l : Encoded) (answe
   pub chain : Chain start (callsTo l n) replies end
   pub agrees : Agrees (after m (callsTo l n)) replies end
 
--- a refusal's number and, for 8, the first bad run's index; none where new or open is accepted
-abbrev pub refusalIn : Replayed → List ℕ
-refusalIn (replayed.Ran h n) = []
-refusalIn (replayed.Refused k) = k ∷ []
-refusalIn (replayed.BadRun i) = 8 ∷ i ∷ []
+-- what new or open answers: 0 where they are accepted and calls were run, or their refusal
+abbrev pub ofReplayed : Replayed → Reply
+ofReplayed (replayed.Ran h n) = number 0
+ofReplayed (replayed.Refused k) = refusal k
+ofReplayed (replayed.BadRun i) = Refusal 8 (i ∷ [])
 
--- `refusal` is that of new or open: refused exactly so, and then nothing is changed; or all run
-pub record Replays (refusal : List ℕ) (Given : Memory → Type 0) (m : Machine) (l : Encoded) (st journal answers : List ℕ) (r : Replayed)
+-- `reply` is that of new or open: refused exactly so, and then nothing is changed; or all run
+pub record Replays (reply : Reply) (Given : Memory → Type 0) (m : Machine) (l : Encoded) (st journal answers : List ℕ) (r : Replayed)
     (st′ journal′ answers′ : List ℕ) : Type 0 where
-  pub refuses : refusalIn r ≡ refusal
-  pub unchanged : (refusalIn r ≡ [] → ⊥) → (st′ ≡ st) × (journal′ ≡ journal) × (answers′ ≡ answers)
+  pub refuses : ofReplayed r ≡ reply
+  pub unchanged : (Accepted (ofReplayed r) → ⊥) → (st′ ≡ st) × (journal′ ≡ journal) × (answers′ ≡ answers)
   pub ran : (h : Ledger) (n : ℕ) → r ≡ replayed.Ran h n → RanAll Given m l answers n answers′ (memory h st′ journal′)
 
 -- from what new gives, lent st and journal: it writes neither
@@ -82,7 +82,7 @@ GivenByNew capacity j st journal x =
 
 abbrev pub ReplaysNew : ℕ → ℕ → Encoded → List ℕ → List ℕ → List ℕ → Replayed → List ℕ → List ℕ → List ℕ → Type 0
 ReplaysNew capacity j l st journal answers r st′ journal′ answers′ =
-    Replays (refusalOf (newOf capacity j (length st) (length journal))) (GivenByNew capacity j st journal) (fresh capacity j) l
+    Replays (ofOpened (newOf capacity j (length st) (length journal))) (GivenByNew capacity j st journal) (fresh capacity j) l
     st journal answers r st′ journal′ answers′
 
 -- from what open gives, lent st and journal
@@ -91,5 +91,5 @@ GivenByOpen file j st journal x = OpenEnsures file j st journal (opened.Head (x 
 
 abbrev pub ReplaysOpen : List ℕ → ℕ → Encoded → List ℕ → List ℕ → List ℕ → Replayed → List ℕ → List ℕ → List ℕ → Type 0
 ReplaysOpen file j l st journal answers r st′ journal′ answers′ =
-    Replays (openRefusal file j (length st) (length journal)) (GivenByOpen file j st journal)
+    Replays (openReply file j (length st) (length journal)) (GivenByOpen file j st journal)
     (openedWith (savedCapacity file) j (savedPositions file)) l st journal answers r st′ journal′ answers′

@@ -45,13 +45,13 @@ fn none() -> Ledger {
 
 // The listing's first marking and its clearing.
 fn marked(head: Ledger, storage: &mut [u64], journal: &mut [u32]) -> Ledger {
-    let head = said(ledger_lent::mark_through(head, storage, journal, 10, 70, true));
-    said(ledger_lent::mark_through(head, storage, journal, 20, 30, false))
+    let head = said(ledger_lent::assign_through(head, storage, journal, 10, 70, true));
+    said(ledger_lent::assign_through(head, storage, journal, 20, 30, false))
 }
 
 // Its second marking, and what is asked after it.
 fn filled(head: Ledger, storage: &mut [u64], journal: &mut [u32]) -> Ledger {
-    let head = said(ledger_lent::mark_through(head, storage, journal, 0, 128, true));
+    let head = said(ledger_lent::assign_through(head, storage, journal, 0, 128, true));
     let set = head.set;
     say::found(set.next_zero(storage, 0, 128));
     say::counted(set.count(storage, 64, 128));
@@ -76,13 +76,13 @@ fn taken_twice(head: Ledger, storage: &mut [u64], journal: &[u32]) -> Ledger {
 
 // Both forms in one chain, then a marking.
 fn mixed(head: Ledger, storage: &mut [u64], journal: &mut [u32]) -> Ledger {
-    let two = ledger_lent::mark_then_back(head, storage, journal, 5, 9, true);
+    let two = ledger_lent::assign_then_back(head, storage, journal, 5, 9, true);
     let first = two.first;
     let second = two.second;
     let last = two.head;
     say::counted(first);
     say::counted(second);
-    said(ledger_lent::mark_through(last, storage, journal, 1, 4, true))
+    said(ledger_lent::assign_through(last, storage, journal, 1, 4, true))
 }
 
 // A wipe, after which no call stands.

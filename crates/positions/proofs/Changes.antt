@@ -7,7 +7,7 @@ use native.Mathlib.Omega.{arith}
 use borrow.Author.Tests.{ltb-true, ltb-false, leb-true, leb-false}
 use lib.Dec.{ltb, leb}
 use lib.ListN.{length}
-use Rattle.positions.specs.Positions.{Positions, assigned, within, differ, lacking, Found, At, None, first, changedCount}
+use Rattle.positions.specs.Positions.{Positions, assigned, within, differ, lacking, Place, At, None, first, changedCount}
 use Rattle.positions.specs.Runs.{Run, run, runs, changedRuns, placeOr, runEnd, assignedRuns, covered, lengths, Ascending}
 use Rattle.positions.proofs.Ranges.{within-in, within-behind}
 use Rattle.positions.proofs.Counts.{count-all}
@@ -20,7 +20,7 @@ pub changed-none : (s : Positions) (a e : ℕ) (v : Bool) → a ≤ e → first 
 unfolding changedRuns
 changed-none s a e v l h = go (first s (not v) a e) h (first-means s (not v) a e)
   where
-    go : (f : Found) → f ≡ None → Searched s (not v) a e f → runs (lacking s v) a e ≡ []
+    go : (f : Place) → f ≡ None → Searched s (not v) a e f → runs (lacking s v) a e ≡ []
     go f x (hit p m) = absurd (let z : _≡_ {A = ℕ} 0 1 = cc in omega arith)
     go f x (miss m) =
         sym (runs-only (lacking s v) a e [] l tt (λ i u w. rw (m i u w, Bool·not-not v, differ-same v)))
@@ -44,7 +44,7 @@ changed-next s a e v p h = go (first s (not v) a e) h (first-means s (not v) a e
             let r : p ≡ q = omega arith in
             absurd (never v (sym x ∙ ap s r ∙ y))
 
-    last : IsFirst s (not v) a e p → (f : Found) → Searched s (not (not v)) p e f
+    last : IsFirst s (not v) a e p → (f : Place) → Searched s (not (not v)) p e f
         → runs (lacking s v) a e ≡ run p (placeOr e f) ∷ runs (lacking s v) (placeOr e f) e
     last m f (hit q k) =
         runs-next (lacking s v) a p q e (m .low) (apart q (k .low) (m .value) (k .value)) (omega (arith, k .high))
@@ -57,7 +57,7 @@ changed-next s a e v p h = go (first s (not v) a e) h (first-means s (not v) a e
         (λ i u w. rw (k i u w, Bool·not-not v, differ-other v))
         (λ w. absurd (omega arith))
 
-    go : (f : Found) → f ≡ At p → Searched s (not v) a e f
+    go : (f : Place) → f ≡ At p → Searched s (not v) a e f
         → runs (lacking s v) a e ≡ run p (placeOr e (first s (not (not v)) p e)) ∷ runs (lacking s v) (placeOr e (first s (not (not v)) p e)) e
     go f x (hit q m) =
         let y : q ≡ p = cc in

@@ -5,7 +5,7 @@ use mathlib.Core.Bool.{Bool, true, false}
 use Prim.Native.Nat.{ℕ, zero, suc, _+_, _-_, _*_, _≤_, _<_}
 use native.Mathlib.Nat.{le-refl, mul-one, not-suc-le-zero, one-mul, zero-mul}
 use native.Mathlib.Omega.{arith}
-use Rattle.positions.specs.Positions.{Positions, kept, one, sumOver, countFrom, count, total}
+use Rattle.positions.specs.Positions.{Positions, onlyIf, one, sumOver, countFrom, count, total}
 use Rattle.positions.proofs.Sums as S
 use Rattle.positions.proofs.Totals as T
 
@@ -14,7 +14,7 @@ module _ (s : ℕ → Bool) where
   unfolding countFrom
   countFrom-zero a = S.over-zero s (λ i. 1) a
 
-  pub countFrom-first : (a n : ℕ) → countFrom s a (suc n) ≡ kept (s a) 1 + countFrom s (suc a) n
+  pub countFrom-first : (a n : ℕ) → countFrom s a (suc n) ≡ onlyIf (s a) 1 + countFrom s (suc a) n
   unfolding countFrom
   countFrom-first a n = S.over-first s (λ i. 1) a n
 
@@ -37,16 +37,16 @@ module _ (s : ℕ → Bool) where
 
   pub countFrom-all : (a n : ℕ) → ((i : ℕ) → a ≤ i → i < a + n → s i ≡ true) → countFrom s a n ≡ n
   unfolding countFrom sumOver
-  countFrom-all a n h = T.total-const (λ i. kept (s i) 1) 1 a n (λ i l k. ap (λ (b : Bool). kept b 1) (h i l k)) ∙ mul-one n
+  countFrom-all a n h = T.total-const (λ i. onlyIf (s i) 1) 1 a n (λ i l k. ap (λ (b : Bool). onlyIf b 1) (h i l k)) ∙ mul-one n
 
-  none-kept : (b : Bool) → kept b 1 ≤ 0 → b ≡ false
+  none-kept : (b : Bool) → onlyIf b 1 ≤ 0 → b ≡ false
   none-kept true h = absurd (not-suc-le-zero h)
   none-kept false h = refl
 
   -- a count of 0: the set has none of the range
   pub countFrom-empty : (a n : ℕ) → countFrom s a n ≡ 0 → (i : ℕ) → a ≤ i → i < a + n → s i ≡ false
   unfolding countFrom sumOver
-  countFrom-empty a n e i l h = none-kept (s i) (omega (arith, T.total-at (λ j. kept (s j) 1) a n i l h, e))
+  countFrom-empty a n e i l h = none-kept (s i) (omega (arith, T.total-at (λ j. onlyIf (s j) 1) a n i l h, e))
 
 module _ (s t : ℕ → Bool) where
   pub countFrom-ext : (a n : ℕ) → ((i : ℕ) → a ≤ i → i < a + n → s i ≡ t i) → countFrom s a n ≡ countFrom t a n
@@ -54,14 +54,14 @@ module _ (s t : ℕ → Bool) where
   countFrom-ext a n h = S.over-ext s t (λ i. 1) a n h
 
 -- terms that are all v on the set
-kept-const : (b : Bool) (u v : ℕ) → (b ≡ true → u ≡ v) → kept b u ≡ kept b 1 * v
+kept-const : (b : Bool) (u v : ℕ) → (b ≡ true → u ≡ v) → onlyIf b u ≡ onlyIf b 1 * v
 kept-const true u v h = h refl ∙ sym (one-mul v)
 kept-const false u v h = sym (zero-mul v)
 
 pub over-const : (s : ℕ → Bool) (f : ℕ → ℕ) (v a n : ℕ) → ((i : ℕ) → a ≤ i → i < a + n → s i ≡ true → f i ≡ v) → sumOver s f a n ≡ countFrom s a n * v
 unfolding countFrom sumOver
 over-const s f v a n h =
-    T.total-ext (λ i. kept (s i) (f i)) (λ i. kept (s i) 1 * v) a n (λ i l k. kept-const (s i) (f i) v (h i l k)) ∙ T.total-scale (λ i. kept (s i) 1) v a n
+    T.total-ext (λ i. onlyIf (s i) (f i)) (λ i. onlyIf (s i) 1 * v) a n (λ i l k. kept-const (s i) (f i) v (h i l k)) ∙ T.total-scale (λ i. onlyIf (s i) 1) v a n
 
 -- terms that balance one by one
 pub countFrom-balance : (s t p q : Positions) (a n : ℕ) → ((i : ℕ) → one (t i) + one (p i) ≡ one (s i) + one (q i))

@@ -9,3 +9,4 @@ pub mod Searches
 pub mod Runs
 pub mod Changes
 mod Examples
+pub mod Replies

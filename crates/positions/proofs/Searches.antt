@@ -6,7 +6,7 @@ use Prim.Native.Nat.{ℕ, zero, suc, _+_, _-_, _≤_, _<_}
 use native.Mathlib.Omega.{arith}
 use borrow.Author.Tests.{ltb-true, ltb-false}
 use lib.Dec.{ltb}
-use Rattle.positions.specs.Positions.{Positions, Found, At, None, differ, firstFrom, first}
+use Rattle.positions.specs.Positions.{Positions, Place, At, None, differ, firstFrom, first}
 use Rattle.positions.specs.Walks.{Lacks, Stops, below}
 
 -- position p is the first of a..e with the value v
@@ -17,7 +17,7 @@ pub record IsFirst (s : Positions) (v : Bool) (a e p : ℕ) : Type 0 where
   pub none-before : (i : ℕ) → a ≤ i → i < p → s i ≡ not v
 
 -- either answer with what it means
-pub data Searched (s : Positions) (v : Bool) (a e : ℕ) : Found → Type 0 where
+pub data Searched (s : Positions) (v : Bool) (a e : ℕ) : Place → Type 0 where
   hit : (p : ℕ) → IsFirst s v a e p → Searched s v a e (At p)
   miss : Lacks s v a e → Searched s v a e None
 
@@ -87,7 +87,7 @@ lacks-more s v a e x h i u w = go (at-or-above a i u)
     go (inl q) = rw (← q) x
     go (inr q) = h i q w
 
-searched-more : (s : Positions) (v : Bool) (a e : ℕ) → s a ≡ not v → (f : Found) → Searched s v (suc a) e f → Searched s v a e f
+searched-more : (s : Positions) (v : Bool) (a e : ℕ) → s a ≡ not v → (f : Place) → Searched s v (suc a) e f → Searched s v a e f
 searched-more s v a e x f (hit p h) =
     hit p
     (record { low = omega arith; high = h .high; value = h .value; none-before = lacks-more s v a p x (h .none-before) })
@@ -98,14 +98,14 @@ unfolding firstFrom
 from-means s v a zero = miss (λ i p q. absurd (omega arith))
 from-means s v a (suc n) = go (differ (s a) v) refl (firstFrom s v (suc a) n) (from-means s v (suc a) n)
   where
-    go : (b : Bool) → differ (s a) v ≡ b → (f : Found) → Searched s v (suc a) (suc a + n) f → Searched s v a (a + suc n) (cond b f (At a))
+    go : (b : Bool) → differ (s a) v ≡ b → (f : Place) → Searched s v (suc a) (suc a + n) f → Searched s v a (a + suc n) (cond b f (At a))
     go false x f m =
         hit a (record { low = omega arith; high = omega arith; value = same-of (s a) v x; none-before = λ i p q. absurd (omega arith) })
     go true x f m =
         let p : a + suc n ≡ suc a + n = omega arith in
         rw p (searched-more s v a (suc a + n) (other-of (s a) v x) f m)
 
-searched-to : (s : Positions) (v : Bool) (a e e' : ℕ) → ((i : ℕ) → a ≤ i → i < e' → i < e) → ((i : ℕ) → a ≤ i → i < e → i < e') → (f : Found) → Searched s v a e' f → Searched s v a e f
+searched-to : (s : Positions) (v : Bool) (a e e' : ℕ) → ((i : ℕ) → a ≤ i → i < e' → i < e) → ((i : ℕ) → a ≤ i → i < e → i < e') → (f : Place) → Searched s v a e' f → Searched s v a e f
 searched-to s v a e e' h k f (hit p x) =
     hit p (record { low = x .low; high = h p (x .low) (x .high); value = x .value; none-before = x .none-before })
 searched-to s v a e e' h k f (miss x) = miss (λ i u w. x i u (k i u w))

@@ -37,17 +37,17 @@ total f a zero = zero
 total f a (suc n) = f a + total f (suc a) n
 
 -- a term that counts only where the test holds
-abbrev pub kept : Bool → ℕ → ℕ
-kept true x = x
-kept false x = 0
+abbrev pub onlyIf : Bool → ℕ → ℕ
+onlyIf true x = x
+onlyIf false x = 0
 
 -- true counts 1
 abbrev pub one : Bool → ℕ
-one b = kept b 1
+one b = onlyIf b 1
 
 -- the sum of f over those of the n positions from a on that the set has
 unfoldable pub sumOver : Positions → (ℕ → ℕ) → ℕ → ℕ → ℕ
-sumOver s f a n = total (λ i. kept (s i) (f i)) a n
+sumOver s f a n = total (λ i. onlyIf (s i) (f i)) a n
 
 -- how many of the n positions from a on the set has
 unfoldable pub countFrom : Positions → ℕ → ℕ → ℕ
@@ -64,15 +64,15 @@ changedCount s a e v = count (lacking s v) a e
 -- ---- searching
 
 -- what a search answers
-pub data Found : Type 0 where
-  At : ℕ → Found
-  None : Found
+pub data Place : Type 0 where
+  At : ℕ → Place
+  None : Place
 
 -- the first of the n positions from a on whose value is v
-unfoldable pub firstFrom : Positions → Bool → ℕ → ℕ → Found
+unfoldable pub firstFrom : Positions → Bool → ℕ → ℕ → Place
 firstFrom s v a zero = None
 firstFrom s v a (suc n) = cond (differ (s a) v) (firstFrom s v (suc a) n) (At a)
 
 -- the first position of a..e whose value is v
-unfoldable pub first : Positions → Bool → ℕ → ℕ → Found
+unfoldable pub first : Positions → Bool → ℕ → ℕ → Place
 first s v a e = firstFrom s v a (e - a)

@@ -4,7 +4,7 @@ use mathlib.Core.Bool.{Bool, true, false, not, cond}
 use mathlib.Core.List.{List, [], _∷_}
 use Prim.Native.Nat.{ℕ, zero, suc, _+_, _-_, _≤_, _<_}
 use lib.Dec.{eqb}
-use Rattle.positions.specs.Positions.{Positions, within, assigned, lacking, Found, At, None, first}
+use Rattle.positions.specs.Positions.{Positions, within, assigned, lacking, Place, At, None, first}
 
 -- a stretch of positions, start..end
 pub record Run : Type 0 where
@@ -34,7 +34,7 @@ unfoldable pub changedRuns : Positions → ℕ → ℕ → Bool → List Run
 changedRuns s a e v = runs (lacking s v) a e
 
 -- where a search ends that found nothing
-abbrev pub placeOr : ℕ → Found → ℕ
+abbrev pub placeOr : ℕ → Place → ℕ
 placeOr e (At i) = i
 placeOr e None = e
 

@@ -4,7 +4,7 @@ use mathlib.Core.Path.{_≡_}
 use mathlib.Core.Bool.{Bool, not, cond}
 use Prim.Native.Nat.{ℕ, _≤_, _<_}
 use lib.Dec.{ltb}
-use Rattle.positions.specs.Positions.{Positions, Found, At, None}
+use Rattle.positions.specs.Positions.{Positions, Place, At, None}
 
 -- no position of a..e has the value v
 abbrev pub Lacks : Positions → Bool → ℕ → ℕ → Type 0
@@ -18,5 +18,5 @@ pub record Stops (s : Positions) (v : Bool) (a c p : ℕ) : Type 0 where
   pub found : p < c → s p ≡ v
 
 -- p, if it lies below the end
-abbrev pub below : ℕ → ℕ → Found
+abbrev pub below : ℕ → ℕ → Place
 below p e = cond (ltb p e) (At p) None

@@ -13,10 +13,10 @@ use Rattle.positions.proofs.Counts.{count-swap}
 use Rattle.positions.proofs.Assigned.{assigned-before, assigned-behind, changed-apart}
 use Rattle.bits.specs.Bit.{mask, put}
 use Rattle.bits.proofs.Words.{mask-ext, put-one}
-use Rattle.range_bitset.specs.Layout.{blocks, wordsOf, at, word, nonzero, full, population, topNonzero, topFull, Slot}
+use Rattle.range_bitset.specs.Layout.{blocks, wordsOf, at, word, nonzero, full, population, topNonzero, topFull, Slot, SamePast}
 use Rattle.range_bitset.specs.Read.{ALL, mixedRead}
-use Rattle.range_bitset.specs.Represents.{wordOf, anyWord, allWord, nonzeroMask, fullMask, blockCount, only, masked, Holds}
-use Rattle.range_bitset.specs.Inner.{Room, Spans, apart, moved, In, stores, find, AllIn, writeWord, countMoved, Opens, Closes, Kept, Assigns}
+use Rattle.range_bitset.specs.Represents.{wordOf, anyWord, allWord, nonzeroMask, fullMask, blockCount, only, masked, StoredOpen}
+use Rattle.range_bitset.specs.Inner.{Room, Spans, apart, moved, In, stores, find, AllIn, writeWord, countMoved, Opens, Closes, Assigns}
 use Rattle.range_bitset.proofs.Slots.{leaves-at, twice-at, twice-kept}
 use Rattle.range_bitset.proofs.Words.{in-block, word-same, word-ones, ones-most, block-most, mixed-is}
 use Rattle.range_bitset.proofs.Opening.{open-here}
@@ -24,13 +24,13 @@ use Rattle.range_bitset.proofs.Rewriting.{touches, rewrite-block}
 use Rattle.range_bitset.proofs.Masks.{put-word}
 
 -- what the storage holds after an opened block is written and closed, put together
-pub assigns-by : (W b X Y : ℕ) (v : Bool) (st st₁ st₃ st₄ : List ℕ) (r : ℕ) → Opens W b st st₁ → Kept W st₁ st₃ → Closes W b st₃ st₄
-    → ((s : Positions) → Holds W st₁ s (only b) → Holds W st₃ (assigned s X Y v) (only b))
-    → ((s : Positions) → Holds W st₁ s (only b) → r ≡ changedCount s X Y v)
+pub assigns-by : (W b X Y : ℕ) (v : Bool) (st st₁ st₃ st₄ : List ℕ) (r : ℕ) → Opens W b st st₁ → SamePast W st₁ st₃ → Closes W b st₃ st₄
+    → ((s : Positions) → StoredOpen W st₁ s (only b) → StoredOpen W st₃ (assigned s X Y v) (only b))
+    → ((s : Positions) → StoredOpen W st₁ s (only b) → r ≡ changedCount s X Y v)
     → Assigns W X Y v st st₄ r
 assigns-by W b X Y v st st₁ st₃ st₄ r o k c h n =
     record {
-      kept = c .kept ∙ k ∙ o .kept;
+      storage-kept = c .storage-kept ∙ k ∙ o .storage-kept;
       holds = λ s t. c .holds (assigned s X Y v) (h s (o .holds s t));
       changed = λ s t. n s (o .holds s t);
     }
@@ -83,10 +83,10 @@ module _ (W : ℕ) (st : List ℕ) (s s′ : Positions) (k : ℕ) (room : Room W
           ap g (sym (word-other (64 * (k / 64) + j) (λ z. n (omega arith))))
 
   -- word k and its bits written, and the block's population moved, in a block that is open
-  write-holds : (st₂ st₃ : List ℕ) (new : ℕ) → Holds W st s (only (k / 64)) → new ≡ wordOf s′ k
+  write-holds : (st₂ st₃ : List ℕ) (new : ℕ) → StoredOpen W st s (only (k / 64)) → new ≡ wordOf s′ k
       → st₂ ≡ stores W st (writeWord W st k new)
       → st₃ ≡ stores W st₂ (countMoved W st₂ (k / 64) (ones (wordOf s k)) (ones new))
-      → Holds W st₃ s′ (only (k / 64))
+      → StoredOpen W st₃ s′ (only (k / 64))
   unfolding touches nonzeroMask fullMask
   write-holds st₂ st₃ new r z e₂ e₃ =
       rewrite-block W s s′ (k / 64) agree-b st st₃ r others
@@ -175,13 +175,13 @@ word-assigned W k m v st st₁ st₂ st₃ st₄ old new n room l fit o eo en e�
     i : (k / 64 < blocks W) × (k % 64 < wordsOf W (k / 64)) × (64 * (k / 64) + k % 64 ≡ k)
     i = in-block W k l
 
-    was : (s : Positions) → Holds W st₁ s (only (k / 64)) → old ≡ wordOf s k
+    was : (s : Positions) → StoredOpen W st₁ s (only (k / 64)) → old ≡ wordOf s k
     was s t = eo ∙ mixed-is W st₁ s (only (k / 64)) t k l (open-here W s (k / 64))
 
-    fresh : (s : Positions) → Holds W st₁ s (only (k / 64)) → new ≡ wordOf (assigned s X Y v) k
+    fresh : (s : Positions) → StoredOpen W st₁ s (only (k / 64)) → new ≡ wordOf (assigned s X Y v) k
     fresh s t = en ∙ ap (λ (x : ℕ). put 64 x m v) (was s t) ∙ put-word s k a b v m fit sp
 
-    kept : Kept W st₁ st₃
+    kept : SamePast W st₁ st₃
     kept =
         twice-kept W st₁ (room .long) (writeWord W st₁ k new) (countMoved W st₂ (k / 64) (ones old) (ones new))
         (i .0, (i .0, (l, omega arith))) (i .0, omega arith) e₂ e₃

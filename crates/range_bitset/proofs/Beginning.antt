@@ -46,13 +46,13 @@ module _ (W : ℕ) (begun : Bool) (st st′ : List ℕ) where
   pub begins-fresh : Room W st → begun ≡ false → st′ ≡ stores W st beginning → Begins W begun st st′
   begins-fresh room f e =
       record {
-        kept = leaves-kept W st (room .long) beginning (omega arith) e;
+        storage-kept = leaves-kept W st (room .long) beginning (omega arith) e;
         holds = λ s p q. subst (λ (x : List ℕ). Stored W x s) (sym e) (begin-clear W st room s (q f));
       }
 
   pub begins-old : begun ≡ true → st′ ≡ st → Begins W begun st st′
   begins-old t e =
       record {
-        kept = ap (drop (needed W)) e;
+        storage-kept = ap (drop (needed W)) e;
         holds = λ s p q. subst (λ (x : List ℕ). Stored W x s) (sym e) (p t);
       }

@@ -7,6 +7,7 @@ use native.Mathlib.Omega.{arith}
 use lib.Dec.{eqb, ltb}
 use lib.ListN.{drop, length}
 use borrow.Author.Tests.{eqb-true, eqb-false, eq-eqb, ne-eqb, lt-ltb, le-ltb}
+use Rattle.positions.proofs.Replies.{accepted-refused}
 use Rattle.positions.specs.Positions.{Positions, none, within, assigned, count, changedCount, differ, lacking, one}
 use Rattle.positions.proofs.Ranges.{Place, inside, before, behind, place}
 use Rattle.positions.proofs.Counts.{count-none, count-zero, count-le}
@@ -14,14 +15,15 @@ use Rattle.positions.proofs.Assigned.{assigned-count, assigned-empty, assigned-
 use Rattle.bits.proofs.Bits.{bit-pow}
 use Rattle.range_bitset.specs.Layout.{needed}
 use Rattle.range_bitset.specs.Represents.{Stored, Represents, capacityOf}
-use Rattle.range_bitset.specs.Answers.{Reply, Number, Refusal, refused, Accepted, rangeRefusal, pointRefusal, storageRefusal}
+use Rattle.positions.specs.Replies.{Reply, number, refusal, refused, Accepted}
+use Rattle.range_bitset.specs.Answers.{rangeRefusal, pointRefusal, storageRefusal}
 use Rattle.range_bitset.specs.Entries.{Changes, AssignEnsures, SetEnsures, ClearEnsures}
 use Rattle.range_bitset.specs.Inner.{Room, Spans, Begins, Assigns}
 use Rattle.range_bitset.specs.declared.RangeBitset.{RangeBitset}
 use Rattle.range_bitset.specs.declared.Counted.the-variants as counted
 use Rattle.range_bitset.specs.declared.Tested.the-variants as tested
 use Rattle.range_bitset.proofs.Agreeing.{stored-agrees}
-use Rattle.range_bitset.proofs.Heads.{range-accepted, point-accepted, accepted-refused}
+use Rattle.range_bitset.proofs.Heads.{range-accepted, point-accepted}
 
 abbrev headOf : ℕ → ℕ → Bool → RangeBitset
 headOf W n x = record { words = W; len = n; allocated = x }
@@ -33,13 +35,13 @@ head-is h n x p q = λ i. record { words = h .words; len = p i; allocated = q i 
 
 module _ {f : Positions → Reply} {g : Positions → Positions} {begins clears : Bool} (k : ℕ) (h : RangeBitset) (st : List ℕ) where
   -- refused
-  pub unaccepted : (n : ℕ) (r : Reply) → n ≡ k → (n ≡ 0 → ⊥) → r ≡ Refusal n → Changes k h st f g begins clears r h st
+  pub unaccepted : (n : ℕ) (r : Reply) → n ≡ k → (n ≡ 0 → ⊥) → r ≡ refusal n → Changes k h st f g begins clears r h st
   unaccepted n r e z q =
       record {
         refuses = ap refused q ∙ e;
         accepts = λ w. absurd (z (e ∙ w));
         unchanged = λ w. (refl, refl);
-        kept = refl;
+        storage-kept = refl;
         same-words = refl;
         idle = λ w o. (refl, refl);
         answers = λ w. absurd (z (e ∙ w));
@@ -55,7 +57,7 @@ module _ {f : Positions → Reply} {g : Positions → Positions} {begins clears 
         refuses = accepted-refused r z ∙ sym e;
         accepts = λ w. z;
         unchanged = λ w. (refl, refl);
-        kept = refl;
+        storage-kept = refl;
         same-words = refl;
         idle = λ w o. (refl, refl);
         answers = λ w s t. q s t .0;
@@ -73,7 +75,7 @@ module _ {f : Positions → Reply} {g : Positions → Positions} {begins clears 
         refuses = accepted-refused r z ∙ sym e;
         accepts = λ w. z;
         unchanged = λ w. absurd (w e);
-        kept = d;
+        storage-kept = d;
         same-words = refl;
         idle = λ w o. absurd (busy w o);
         answers = λ w s t. q s t .0;
@@ -137,7 +139,7 @@ module _ (h : RangeBitset) (st st₁ st₂ : List ℕ) (a e : ℕ) (v : Bool) (n
       → ((s : Positions) → n ≡ changedCount s a e v → r ≡ f s)
       → Changes k h st f (λ s. assigned s a e v) begins (not v) r (headOf (h .words) m true) st₂
   change-done k m r z q em i eb ans =
-      new-set k h st r m st₂ z q (not-idle v (h .len) i) (w .kept ∙ b .kept)
+      new-set k h st r m st₂ z q (not-idle v (h .len) i) (w .storage-kept ∙ b .storage-kept)
       (λ s t.
       let c = w .changed s (begun-holds s t) in
       (ans s c, em ∙ len-after h st a e v n room l s t c, begun-after h st v i s t ∙ ap (λ (x : Bool). h .allocated || x) (sym eb), w .holds s (begun-holds s t)))
@@ -148,7 +150,7 @@ module _ (h : RangeBitset) (st : List ℕ) (a e : ℕ) (v : Bool) (z : rangeRefu
   pub assign-empty : e ≤ a → AssignEnsures h st a e v (record { answer = counted.Count 0; head = h }) st
   assign-empty l =
       same-set _ h st _ z tt
-      (λ s t. (ap Number (sym (changed-empty s a e v l)), assigned-empty s a e v l, sym (ap (λ (x : Bool). h .allocated || (v && x)) (le-ltb a e l) ∙ flag v (h .allocated))))
+      (λ s t. (ap number (sym (changed-empty s a e v l)), assigned-empty s a e v l, sym (ap (λ (x : Bool). h .allocated || (v && x)) (le-ltb a e l) ∙ flag v (h .allocated))))
     where
       flag : (v x : Bool) → (x || (v && false)) ≡ x
       flag true x = or-false x
@@ -159,7 +161,7 @@ module _ (h : RangeBitset) (st : List ℕ) (a e : ℕ) (v : Bool) (z : rangeRefu
       same-set _ h st _ z tt
       (λ s t.
       let q = idle-clear h st a e v (range-accepted h st e z .1) i s t in
-      (ap Number (sym (q .0)), assigned-none s a e v (q .0), sym (ap (λ (x : Bool). h .allocated || (x && ltb a e)) (q .1) ∙ or-false (h .allocated))))
+      (ap number (sym (q .0)), assigned-none s a e v (q .0), sym (ap (λ (x : Bool). h .allocated || (x && ltb a e)) (q .1) ∙ or-false (h .allocated))))
 
   pub assign-done : (st₁ st₂ : List ℕ) (n m : ℕ) → a < e → (not v && eqb (h .len) 0) ≡ false
       → Begins (h .words) (h .allocated) st st₁ → Assigns (h .words) a e v st₁ st₂ n
@@ -168,7 +170,7 @@ module _ (h : RangeBitset) (st : List ℕ) (a e : ℕ) (v : Bool) (z : rangeRefu
   assign-done st₁ st₂ n m l i b w em =
       let q = range-accepted h st e z in
       change-done h st st₁ st₂ a e v n (q .0) (q .1) b w _ m _ z tt em i
-      (ap (λ (x : Bool). v && x) (lt-ltb a e l) ∙ and-true v) (λ s c. ap Number c)
+      (ap (λ (x : Bool). v && x) (lt-ltb a e l) ∙ and-true v) (λ s c. ap number c)
     where
       and-true : (x : Bool) → (x && true) ≡ x
       and-true true = refl
@@ -192,7 +194,7 @@ module _ (h : RangeBitset) (st : List ℕ) (i : ℕ) (v : Bool) (z : pointRefusa
       same-set _ h st _ z tt
       (λ s t.
       let q = idle-clear h st i (suc i) v u e s t in
-      (ap Number (sym (q .0)), assigned-none s i (suc i) v (q .0), sym (ap (λ (x : Bool). h .allocated || x) (q .1) ∙ or-false (h .allocated))))
+      (ap number (sym (q .0)), assigned-none s i (suc i) v (q .0), sym (ap (λ (x : Bool). h .allocated || x) (q .1) ∙ or-false (h .allocated))))
 
   -- whether a position changed is how many did
   whether : (n : ℕ) → n ≤ 1 → one (not (eqb n 0)) ≡ n
@@ -217,7 +219,7 @@ module _ (h : RangeBitset) (st : List ℕ) (i : ℕ) (v : Bool) (z : pointRefusa
       (subst (λ (x : ℕ). Assigns (h .words) (64 * (i / 64) + i % 64) x v st₁ st₂ n) j′
       (as′ (i % 64) (i % 64 + 1) one-bit (omega arith) (omega arith))) in
       change-done h st st₁ st₂ i (suc i) v n (q .0) (q .1) b a _ m _ z tt em e refl
-      (λ s c. ap Number (whether n (omega (arith, c, changed-le s i (suc i) v)) ∙ c))
+      (λ s c. ap number (whether n (omega (arith, c, changed-le s i (suc i) v)) ∙ c))
 
 -- ---- `clear`
 
@@ -231,10 +233,10 @@ module _ (h : RangeBitset) (st : List ℕ) (z : storageRefusal h (length st) ≡
         refuses = sym z;
         accepts = λ w. tt;
         unchanged = λ w. (refl, refl);
-        kept = refl;
+        storage-kept = refl;
         same-words = refl;
         idle = λ w o. (refl, refl);
-        answers = λ w s t. ap Number (sym nothing ∙ t .counted);
+        answers = λ w s t. ap number (sym nothing ∙ t .counted);
         head = λ w s t. head-is h _ _ (nothing ∙ empty) (sym (or-false (h .allocated)));
         represents = λ w s t.
             record {
@@ -254,10 +256,10 @@ module _ (h : RangeBitset) (st : List ℕ) (z : storageRefusal h (length st) ≡
         refuses = sym z;
         accepts = λ w. tt;
         unchanged = λ w. absurd (w z);
-        kept = b .kept;
+        storage-kept = b .storage-kept;
         same-words = refl;
         idle = λ w o. absurd (eqb-false _ _ f o);
-        answers = λ w s t. ap Number (t .counted);
+        answers = λ w s t. ap number (t .counted);
         head = λ w s t. head-is (headOf (h .words) 0 (h .allocated)) _ _ empty (sym (or-false (h .allocated)));
         represents = λ w s t.
             record {

@@ -1,4 +1,4 @@
--- What an accepted reply, head, storage, range and point say, what is enough for each to be accepted, and a fresh set's head. Assumes nothing.
+-- What an accepted head, storage, range and point say, what is enough for each to be accepted, and a fresh set's head. Assumes nothing.
 use mathlib.Core.Path.{_≡_, refl, sym, ap, _∙_}
 use mathlib.Core.Bool.{Bool, true, false, cond, false≢true}
 use mathlib.Core.List.{List}
@@ -13,14 +13,10 @@ use Rattle.positions.proofs.Bools.{and-left, and-right}
 use Rattle.positions.proofs.Counts.{count-le, count-none}
 use Rattle.range_bitset.specs.Layout.{allowed, needed}
 use Rattle.range_bitset.specs.Represents.{Represents, capacityOf}
-use Rattle.range_bitset.specs.Answers.{Reply, Number, Nothing, Refusal, refused, Accepted, allowedCapacity, goodHead, storageRefusal, rangeRefusal, pointRefusal, firstOf}
+use Rattle.positions.specs.Replies.{Reply, Numbers, Refusal, refused, Accepted}
+use Rattle.range_bitset.specs.Answers.{allowedCapacity, goodHead, storageRefusal, rangeRefusal, pointRefusal, firstOf}
 use Rattle.range_bitset.specs.Inner.{Room}
 use Rattle.range_bitset.specs.declared.RangeBitset.{RangeBitset}
-
-pub accepted-refused : (r : Reply) → Accepted r → refused r ≡ 0
-accepted-refused (Number n) y = refl
-accepted-refused Nothing y = refl
-accepted-refused (Refusal k) y = absurd y
 
 one-pos : (W : ℕ) → ones W ≡ 1 → 0 < W
 unfolding ones

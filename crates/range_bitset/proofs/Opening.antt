@@ -1,4 +1,4 @@
--- What opening and closing a block does: between `Stored` and `Holds` with that block open. Assumes nothing.
+-- What opening and closing a block does: between `Stored` and `StoredOpen` with that block open. Assumes nothing.
 use mathlib.Core.Path.{_≡_, refl, ap, sym, _∙_, subst}
 use mathlib.Core.Bool.{Bool, true, false, not, _&&_, _||_, cond, true≢false, or-true}
 use mathlib.Core.List.{List, [], _∷_}
@@ -10,10 +10,10 @@ use borrow.Author.Tests.{eq-eqb, ne-eqb, eqb-true}
 use Rattle.positions.specs.Positions.{Positions}
 use Rattle.bits.specs.Bit.{mask, put}
 use Rattle.bits.proofs.Words.{mask-ext, put-one}
-use Rattle.range_bitset.specs.Layout.{blocks, needed, wordsOf, at, word, nonzero, full, population, topNonzero, topFull, Slot}
+use Rattle.range_bitset.specs.Layout.{blocks, needed, wordsOf, at, word, nonzero, full, population, topNonzero, topFull, Slot, SamePast}
 use Rattle.range_bitset.specs.Read.{stateOf}
-use Rattle.range_bitset.specs.Represents.{wordOf, anyWord, allWord, valid, nonzeroMask, fullMask, blockCount, anyBlock, allBlock, closed, only, masked, Holds, Stored}
-use Rattle.range_bitset.specs.Inner.{Room, In, kind, index, Store, _≔_, stores, find, AllIn, openWith, closeClear, closeFull, Opens, Closes, Kept}
+use Rattle.range_bitset.specs.Represents.{wordOf, anyWord, allWord, valid, nonzeroMask, fullMask, blockCount, anyBlock, allBlock, closed, only, masked, StoredOpen, Stored}
+use Rattle.range_bitset.specs.Inner.{Room, In, kind, index, Store, _≔_, stores, find, AllIn, openWith, closeClear, closeFull, Opens, Closes}
 use Rattle.range_bitset.specs.declared.State.the-variants.{Empty, Mixed, Full}
 use Rattle.range_bitset.proofs.Slots.{stores-at, leaves-kept}
 use Rattle.range_bitset.proofs.Words.{state-full, state-empty, state-mixed, full-words, full-nonzero, full-full, full-count, clear-words, clear-nonzero, clear-full, clear-count, none-all-block}
@@ -54,7 +54,7 @@ module _ (W : ℕ) (st : List ℕ) (s : Positions) (b : ℕ) (room : Room W st) 
   -- ---- opening
   module _ (r : Stored W st s) where
     -- a mixed block needs nothing
-    open-mixed : anyBlock W s b ≡ true → allBlock W s b ≡ false → Holds W st s (only b)
+    open-mixed : anyBlock W s b ≡ true → allBlock W s b ≡ false → StoredOpen W st s (only b)
     open-mixed a f =
         record {
           top-nonzero = r .top-nonzero ∙ mask-ext (blocks W) _ _ (λ c k. sym (same-by _||_ (anyBlock W s) b c (sym a) (λ x. refl)));
@@ -74,7 +74,7 @@ module _ (W : ℕ) (st : List ℕ) (s : Positions) (b : ℕ) (room : Room W st) 
     -- any other block is given the masks and the population that it reads as
     open-other : (m p : ℕ) → m ≡ nonzeroMask W s b → m ≡ fullMask W s b → p ≡ blockCount W s b
         → ((k : ℕ) → k < W → k / 64 ≡ b → anyWord s k ≡ true → allWord s k ≡ false → ⊥)
-        → Holds W (stores W st (openWith W st b m p)) s (only b)
+        → StoredOpen W (stores W st (openWith W st b m p)) s (only b)
     open-other m p hn hf hp hw =
         record {
           top-nonzero =
@@ -104,7 +104,7 @@ module _ (W : ℕ) (st : List ℕ) (s : Positions) (b : ℕ) (room : Room W st) 
         by k h x a f false e = r .stored k h (other (k / 64) e x) a f
 
   -- ---- closing
-  module _ (r : Holds W st s (only b)) where
+  module _ (r : StoredOpen W st s (only b)) where
     -- the masks that the code tests are the set's
     close-nonzero : at W st (nonzero b) ≡ nonzeroMask W s b
     close-nonzero = r .nonzeros b l (open-here W s b)
@@ -189,37 +189,37 @@ module _ (W : ℕ) (st : List ℕ) (s : Positions) (b : ℕ) (room : Room W st) 
 -- ---- the contracts of `open_block` and `close_block`, from what the code has at each return
 
 module _ (W : ℕ) (b : ℕ) (st st′ : List ℕ) (room : Room W st) (l : b < blocks W) where
-  kept-by : (us : List Store) → st′ ≡ stores W st us → AllIn W us → Kept W st st′
+  kept-by : (us : List Store) → st′ ≡ stores W st us → AllIn W us → SamePast W st st′
   kept-by us e a = leaves-kept W st (room .long) us a e
 
   pub closes-clear : at W st (nonzero b) ≡ 0 → st′ ≡ stores W st (closeClear W st b) → Closes W b st st′
   closes-clear z e =
       record {
-        kept = kept-by (closeClear W st b) e (omega arith);
+        storage-kept = kept-by (closeClear W st b) e (omega arith);
         holds = λ s r. subst (λ (x : List ℕ). Stored W x s) (sym e) (close-clear W st s b room l r z);
       }
 
   pub closes-all : (at W st (nonzero b) ≡ 0 → ⊥) → at W st (full b) ≡ valid W b → st′ ≡ stores W st (closeFull W st b) → Closes W b st st′
   closes-all n z e =
       record {
-        kept = kept-by (closeFull W st b) e (omega arith);
+        storage-kept = kept-by (closeFull W st b) e (omega arith);
         holds = λ s r. subst (λ (x : List ℕ). Stored W x s) (sym e) (close-all W st s b room l r n z);
       }
 
   pub closes-mixed : (at W st (nonzero b) ≡ 0 → ⊥) → (at W st (full b) ≡ valid W b → ⊥) → st′ ≡ st → Closes W b st st′
   closes-mixed n z e =
       record {
-        kept = ap (drop (needed W)) e;
+        storage-kept = ap (drop (needed W)) e;
         holds = λ s r. subst (λ (x : List ℕ). Stored W x s) (sym e) (close-mixed W st s b room l r n z);
       }
 
   pub opens-mixed : stateOf W st b ≡ Mixed → st′ ≡ st → Opens W b st st′
   opens-mixed m e =
       record {
-        kept = ap (drop (needed W)) e;
+        storage-kept = ap (drop (needed W)) e;
         holds = λ s r.
             let q = state-mixed W st b l s r m in
-            subst (λ (x : List ℕ). Holds W x s (only b)) (sym e) (open-mixed W st s b room l r (q .0) (q .1));
+            subst (λ (x : List ℕ). StoredOpen W x s (only b)) (sym e) (open-mixed W st s b room l r (q .0) (q .1));
       }
 
   -- a block that is not mixed, given masks and a population that are right for every set that reads so
@@ -229,10 +229,10 @@ module _ (W : ℕ) (b : ℕ) (st st′ : List ℕ) (room : Room W st) (l : b < b
       → Opens W b st st′
   opens-with m p e right never =
       record {
-        kept = kept-by (openWith W st b m p) e (omega arith);
+        storage-kept = kept-by (openWith W st b m p) e (omega arith);
         holds = λ s r.
             let q = right s r in
-            subst (λ (x : List ℕ). Holds W x s (only b)) (sym e)
+            subst (λ (x : List ℕ). StoredOpen W x s (only b)) (sym e)
             (open-other W st s b room l r m p (q .0) (q .1) (q .2)
             (λ k h d a f.
             let i : 64 * b + k % 64 ≡ k = omega arith in

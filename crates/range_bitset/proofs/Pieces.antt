@@ -13,7 +13,7 @@ use Rattle.range_bitset.specs.Inner.{Assigns}
 pub assigns-none : (W a e : ℕ) (v : Bool) (st : List ℕ) → e ≤ a → Assigns W a e v st st 0
 assigns-none W a e v st h =
     record {
-      kept = refl;
+      storage-kept = refl;
       holds = λ s r. subst (Stored W st) (sym (assigned-empty s a e v h)) r;
       changed = λ s r. sym (changed-empty s a e v h);
     }
@@ -24,7 +24,7 @@ pub assigns-pieces : (W a b c e : ℕ) (v : Bool) (st st₁ st₂ st₃ : List �
     → Assigns W a e v st st₃ n
 assigns-pieces W a b c e v st st₁ st₂ st₃ n₁ n₂ n₃ n h k l m x y z q =
     record {
-      kept = z .kept ∙ y .kept ∙ x .kept;
+      storage-kept = z .storage-kept ∙ y .storage-kept ∙ x .storage-kept;
       holds = λ s r. subst (Stored W st₃) (assigned-pieces s a b c e v h k l) (z .holds _ (y .holds _ (x .holds s r)));
       changed = λ s r.
           let p = x .changed s r in

@@ -9,7 +9,7 @@ use native.Mathlib.Numerals.{add-one}
 use native.Mathlib.Omega.{arith}
 use lib.Bits.{bitAnd, and-le-l}
 use lib.Count.{ones}
-use Rattle.positions.specs.Positions.{Positions, kept, one, total, sumOver, countFrom, count}
+use Rattle.positions.specs.Positions.{Positions, onlyIf, one, total, sumOver, countFrom, count}
 use Rattle.positions.proofs.Counts.{countFrom-zero, countFrom-first, count-from, count-split, count-empty, count-le}
 use Rattle.positions.proofs.Ranges.{within-in, within-before, within-behind}
 use Rattle.positions.proofs.Sums.{over-add, over-none}
@@ -19,7 +19,7 @@ use Rattle.bits.proofs.Bits.{bit-and}
 use Rattle.bits.proofs.Ones.{ones-countFrom}
 use Rattle.range_bitset.specs.Layout.{blocks, wordsOf, at, population}
 use Rattle.range_bitset.specs.Read.{stateOf, mixedRead, wordRead}
-use Rattle.range_bitset.specs.Represents.{wordOf, blockCount, anyBlock, allBlock, masked, Holds}
+use Rattle.range_bitset.specs.Represents.{wordOf, blockCount, anyBlock, allBlock, masked, StoredOpen}
 use Rattle.range_bitset.specs.Inner.{Spans, mixedCount, wordsCount, keptCount, blocksCount}
 use Rattle.range_bitset.specs.declared.State.{State}
 use Rattle.range_bitset.specs.declared.State.the-variants.{Empty, Mixed, Full}
@@ -51,7 +51,7 @@ module _ (s : Positions) (p : ℕ → ℕ) (climbs : (j : ℕ) → p j ≤ p (su
       let low = over-none (bit m) f 0 a (λ i u v. w i ∙ within-before a b i (omega arith)) in
       let high = over-none (bit m) f (a + (b - a)) (64 - b) (λ i u v. w i ∙ within-behind a b i (omega arith)) in
       let here : sumOver (bit m) f a (b - a) ≡ count s (p a) (p (a + (b - a))) =
-      total-ext (λ i. kept (bit m i) (f i)) f a (b - a) (λ i u v. ap (λ (x : Bool). kept x (f i)) (w i ∙ within-in a b i u (omega arith)))
+      total-ext (λ i. onlyIf (bit m i) (f i)) f a (b - a) (λ i u v. ap (λ (x : Bool). onlyIf x (f i)) (w i ∙ within-in a b i u (omega arith)))
       ∙ rows f a (b - a) (λ j u v. h j u (omega arith))
       in
       omega (
@@ -78,22 +78,22 @@ pub word-count : (s : Positions) (k m a b : ℕ) → Spans m a b → a ≤ b →
 unfolding countFrom sumOver
 word-count s k m a b w l h =
     ones-countFrom 64 (bitAnd (wordOf s k) m) (lt-of-le-of-lt (and-le-l (wordOf s k) m) (word-lt s k))
-    ∙ total-ext (λ i. kept (bit (bitAnd (wordOf s k) m) i) 1) (λ i. kept (bit m i) (one (s (64 * k + i)))) 0 64 (λ i u v. term i v)
+    ∙ total-ext (λ i. onlyIf (bit (bitAnd (wordOf s k) m) i) 1) (λ i. onlyIf (bit m i) (one (s (64 * k + i)))) 0 64 (λ i u v. term i v)
     ∙ masked-rows s (λ j. 64 * k + j) (λ j. omega arith) m a b (λ i. one (s (64 * k + i))) w l h
     (λ j u v. one-row s (64 * k + j) ∙ ap (count s (64 * k + j)) (sym (add-suc (64 * k) j)))
   where
-    both : (x y : Bool) → kept (x && y) 1 ≡ kept y (one x)
+    both : (x y : Bool) → onlyIf (x && y) 1 ≡ onlyIf y (one x)
     both true true = refl
     both true false = refl
     both false true = refl
     both false false = refl
 
-    term : (i : ℕ) → i < 64 → kept (bit (bitAnd (wordOf s k) m) i) 1 ≡ kept (bit m i) (one (s (64 * k + i)))
+    term : (i : ℕ) → i < 64 → onlyIf (bit (bitAnd (wordOf s k) m) i) 1 ≡ onlyIf (bit m i) (one (s (64 * k + i)))
     term i v =
-        ap (λ (x : Bool). kept x 1) (bit-and (wordOf s k) m i) ∙ both (bit (wordOf s k) i) (bit m i)
-        ∙ ap (λ (x : Bool). kept (bit m i) (one x)) (word-bit s k i v)
+        ap (λ (x : Bool). onlyIf x 1) (bit-and (wordOf s k) m i) ∙ both (bit (wordOf s k) i) (bit m i)
+        ∙ ap (λ (x : Bool). onlyIf (bit m i) (one x)) (word-bit s k i v)
 
-module _ (W : ℕ) (st : List ℕ) (s : Positions) (o : ℕ → Bool) (holds : Holds W st s o) where
+module _ (W : ℕ) (st : List ℕ) (s : Positions) (o : ℕ → Bool) (holds : StoredOpen W st s o) where
   -- the same read from the storage, with the ends as the caller has them
   pub part-count : (k m a b x y : ℕ) → k < W → Spans m a b → a ≤ b → b ≤ 64 → 64 * k + a ≡ x → 64 * k + b ≡ y
       → ones (bitAnd (wordRead W st k) m) ≡ count s x y

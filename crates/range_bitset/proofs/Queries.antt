@@ -7,26 +7,28 @@ use Prim.Native.Nat.{ℕ, _/_, _%_, _≤_, _<_, zero-le}
 use native.Mathlib.Nat.{le-refl}
 use native.Mathlib.Omega.{arith}
 use lib.ListN.{length}
-use Rattle.positions.specs.Positions.{Positions, one, Found, At, None}
+use Rattle.positions.proofs.Replies.{accepted-refused}
+use Rattle.positions.specs.Positions.{Positions, one, Place, At, None}
 use Rattle.positions.proofs.Counts.{count-empty, count-none, count-zero}
 use Rattle.positions.specs.Walks.{below}
 use Rattle.positions.proofs.Searches.{first-none, first-at, first-below}
 use Rattle.bits.specs.Bit.{bit}
 use Rattle.range_bitset.specs.Read.{wordRead}
 use Rattle.range_bitset.specs.Represents.{closed, Represents, Stored, capacityOf}
-use Rattle.range_bitset.specs.Answers.{Reply, Number, Refusal, ofPlace, ofFound, refused, Accepted, pointRefusal, rangeRefusal}
+use Rattle.positions.specs.Replies.{Reply, number, refusal, ofPlace, refused, Accepted}
+use Rattle.range_bitset.specs.Answers.{ofFound, pointRefusal, rangeRefusal}
 use Rattle.range_bitset.specs.Entries.{Answers, GetEnsures, CountEnsures, NextEnsures}
 use Rattle.range_bitset.specs.Inner.{Counts, NextFrom}
 use Rattle.range_bitset.specs.declared.RangeBitset.{RangeBitset}
 use Rattle.range_bitset.specs.declared.Tested.the-variants as tested
 use Rattle.range_bitset.specs.declared.Counted.the-variants as counted
-use Rattle.range_bitset.specs.declared.Found.{Found as Place}
-use Rattle.range_bitset.specs.declared.Found.the-variants as place
-use Rattle.range_bitset.proofs.Heads.{point-accepted, range-accepted, accepted-refused}
+use Rattle.range_bitset.specs.declared.Found.{Found}
+use Rattle.range_bitset.specs.declared.Found.the-variants as found
+use Rattle.range_bitset.proofs.Heads.{point-accepted, range-accepted}
 use Rattle.range_bitset.proofs.Words.{word-is, in-word}
 
 -- a refusal
-pub declined : {f : Positions → Reply} (k n : ℕ) (h : RangeBitset) (st : List ℕ) (r : Reply) → n ≡ k → (n ≡ 0 → ⊥) → r ≡ Refusal n → Answers k h st f r
+pub declined : {f : Positions → Reply} (k n : ℕ) (h : RangeBitset) (st : List ℕ) (r : Reply) → n ≡ k → (n ≡ 0 → ⊥) → r ≡ refusal n → Answers k h st f r
 declined k n h st r e z q =
     record { refuses = ap refused q ∙ e; accepts = λ w. absurd (z (e ∙ w)); answers = λ w. absurd (z (e ∙ w)) }
 
@@ -41,7 +43,7 @@ module _ (h : RangeBitset) (st : List ℕ) (i : ℕ) where
   pub get-fresh : pointRefusal h (length st) i ≡ 0 → h .allocated ≡ false → GetEnsures h st i (tested.Is false)
   get-fresh e f =
       answered _ h st _ e tt
-      (λ s t. ap (λ (x : Bool). Number (one x)) (sym (t .fresh f i (point-accepted h st i e .1))))
+      (λ s t. ap (λ (x : Bool). number (one x)) (sym (t .fresh f i (point-accepted h st i e .1))))
 
   pub get-begun : (w : ℕ) (b : Bool) → pointRefusal h (length st) i ≡ 0 → h .allocated ≡ true → w ≡ wordRead (h .words) st (i / 64) → b ≡ bit w (i % 64)
       → GetEnsures h st i (tested.Is b)
@@ -49,7 +51,7 @@ module _ (h : RangeBitset) (st : List ℕ) (i : ℕ) where
       let l = point-accepted h st i e .1 in
       answered _ h st _ e tt
       (λ s t.
-      ap (λ (x : Bool). Number (one x))
+      ap (λ (x : Bool). number (one x))
       (q ∙ ap (λ (x : ℕ). bit x (i % 64)) (p ∙ word-is (h .words) st s closed (t .begun f) (i / 64) (omega arith)) ∙ in-word s i))
 
 -- a set of no positions has none before its capacity, and one that has any was begun
@@ -68,53 +70,53 @@ module _ (h : RangeBitset) (st : List ℕ) (s : Positions) (t : Represents h st 
 
 module _ (h : RangeBitset) (st : List ℕ) (a e : ℕ) (ok : rangeRefusal h (length st) e ≡ 0) where
   pub count-nothing : e ≤ a → CountEnsures h st a e (counted.Count 0)
-  count-nothing l = answered _ h st _ ok tt (λ s t. ap Number (sym (count-empty s a e l)))
+  count-nothing l = answered _ h st _ ok tt (λ s t. ap number (sym (count-empty s a e l)))
 
   pub count-empty-set : h .len ≡ 0 → CountEnsures h st a e (counted.Count 0)
   count-empty-set z =
       let l = range-accepted h st e ok .1 in
-      answered _ h st _ ok tt (λ s t. ap Number (sym (count-none s a e (λ i p q. len-none h st s t z i (omega arith)))))
+      answered _ h st _ ok tt (λ s t. ap number (sym (count-none s a e (λ i p q. len-none h st s t z i (omega arith)))))
 
   pub count-begun : (r : ℕ) → h .len ≢ 0 → Counts (h .words) a e st r → CountEnsures h st a e (counted.Count r)
-  count-begun r z q = answered _ h st _ ok tt (λ s t. ap Number (q s (len-begun h st s t z)))
+  count-begun r z q = answered _ h st _ ok tt (λ s t. ap number (q s (len-begun h st s t z)))
 
 -- ---- the returns of `next_one` and `next_zero`
 
-found-accepted : (f : Found) → Accepted (ofFound f)
+found-accepted : (f : Place) → Accepted (ofPlace f)
 found-accepted (At i) = tt
 found-accepted None = tt
 
 module _ (h : RangeBitset) (st : List ℕ) (a e : ℕ) (k : rangeRefusal h (length st) e ≡ 0) where
-  pub next-empty : (v : Bool) → e ≤ a → NextEnsures v h st a e place.Nothing
-  next-empty v l = answered _ h st _ k tt (λ s t. ap ofFound (sym (first-none s v a e (λ i p q. absurd (omega arith)))))
+  pub next-empty : (v : Bool) → e ≤ a → NextEnsures v h st a e found.Nothing
+  next-empty v l = answered _ h st _ k tt (λ s t. ap ofPlace (sym (first-none s v a e (λ i p q. absurd (omega arith)))))
 
-  pub next-none : h .len ≡ 0 → NextEnsures true h st a e place.Nothing
+  pub next-none : h .len ≡ 0 → NextEnsures true h st a e found.Nothing
   next-none z =
       let l = range-accepted h st e k .1 in
       answered _ h st _ k tt
       (λ s t.
-      ap ofFound
+      ap ofPlace
       (sym (first-none s true a e (λ i p q. len-none h st s t z i (omega arith)))))
 
-  pub next-fresh : a < e → h .allocated ≡ false → NextEnsures false h st a e (place.At a)
+  pub next-fresh : a < e → h .allocated ≡ false → NextEnsures false h st a e (found.At a)
   next-fresh l z =
       let m = range-accepted h st e k .1 in
       answered _ h st _ k tt
       (λ s t.
-      ap ofFound
+      ap ofPlace
       (sym
       (first-at s false a e a
       (record { low = le-refl a; high = l; value = t .fresh z a (omega arith); none-before = λ i p q. absurd (omega arith) }))))
 
-  searched : (v : Bool) (p : ℕ) (r : Place) → ((s : Positions) → Represents h st s → Stored (h .words) st s) → NextFrom (h .words) a v st p
-      → ofPlace r ≡ ofFound (below p e) → NextEnsures v h st a e r
+  searched : (v : Bool) (p : ℕ) (r : Found) → ((s : Positions) → Represents h st s → Stored (h .words) st s) → NextFrom (h .words) a v st p
+      → ofFound r ≡ ofPlace (below p e) → NextEnsures v h st a e r
   searched v p r b n q =
       answered _ h st _ k (rw q (found-accepted (below p e)))
       (λ s t.
-      q ∙ ap ofFound (sym (first-below s v a (capacityOf h) e p (n .stops s (b s t)) (range-accepted h st e k .1))))
+      q ∙ ap ofPlace (sym (first-below s v a (capacityOf h) e p (n .stops s (b s t)) (range-accepted h st e k .1))))
 
-  pub next-one : (p : ℕ) (r : Place) → h .len ≢ 0 → NextFrom (h .words) a true st p → ofPlace r ≡ ofFound (below p e) → NextEnsures true h st a e r
+  pub next-one : (p : ℕ) (r : Found) → h .len ≢ 0 → NextFrom (h .words) a true st p → ofFound r ≡ ofPlace (below p e) → NextEnsures true h st a e r
   next-one p r z = searched true p r (λ s t. len-begun h st s t z)
 
-  pub next-zero : (p : ℕ) (r : Place) → h .allocated ≡ true → NextFrom (h .words) a false st p → ofPlace r ≡ ofFound (below p e) → NextEnsures false h st a e r
+  pub next-zero : (p : ℕ) (r : Found) → h .allocated ≡ true → NextFrom (h .words) a false st p → ofFound r ≡ ofPlace (below p e) → NextEnsures false h st a e r
   next-zero p r z = searched false p r (λ s t. t .begun z)

@@ -11,7 +11,7 @@ use Rattle.positions.proofs.Counts.{count-same}
 use Rattle.bits.proofs.Words.{mask-ext}
 use Rattle.range_bitset.specs.Layout.{blocks, wordsOf, at, word, nonzero, full, population, topNonzero, topFull, Slot}
 use Rattle.range_bitset.specs.Read.{ALL}
-use Rattle.range_bitset.specs.Represents.{wordOf, anyWord, allWord, valid, nonzeroMask, fullMask, blockCount, anyBlock, allBlock, only, masked, Holds}
+use Rattle.range_bitset.specs.Represents.{wordOf, anyWord, allWord, valid, nonzeroMask, fullMask, blockCount, anyBlock, allBlock, only, masked, StoredOpen}
 use Rattle.range_bitset.specs.Inner.{In}
 use Rattle.range_bitset.proofs.Words.{word-same, in-block}
 
@@ -77,11 +77,11 @@ module _ (W : ℕ) (s s′ : Positions) (b : ℕ) (agree : (i : ℕ) → i < 64 
       by false p = ap (F false) (e p)
 
   -- the law of `assign_in_word` and `assign_words`: the numbers of block b are s′'s, all others are as they were
-  pub rewrite-block : (st st′ : List ℕ) → Holds W st s (only b)
+  pub rewrite-block : (st st′ : List ℕ) → StoredOpen W st s (only b)
       → ((t : Slot) → In W t → touches b t ≡ false → at W st′ t ≡ at W st t)
       → at W st′ (nonzero b) ≡ nonzeroMask W s′ b → at W st′ (full b) ≡ fullMask W s′ b → at W st′ (population b) ≡ blockCount W s′ b
       → ((j : ℕ) → j < W → j / 64 ≡ b → anyWord s′ j ≡ true → allWord s′ j ≡ false → at W st′ (word j) ≡ wordOf s′ j)
-      → Holds W st′ s′ (only b)
+      → StoredOpen W st′ s′ (only b)
   unfolding touches
   rewrite-block st st′ r o n f p d =
       record {

@@ -1,6 +1,6 @@
 -- What a run of stores leaves at every slot, and what two runs leave: one law each. Two slots of one address are the same
 -- slot, by one computation over `kind` and `index`. Assumes nothing.
-use mathlib.Core.Path.{_≡_, refl, ap, sym, _∙_}
+use mathlib.Core.Path.{_≡_, refl, ap, sym, _∙_, subst}
 use mathlib.Core.Bool.{Bool, true, false, _&&_, cond, true≢false}
 use mathlib.Core.List.{List, [], _∷_}
 use Prim.Native.Nat.{ℕ, zero, suc, _+_, _*_, _≤_, _<_}
@@ -13,7 +13,7 @@ use lib.ListN.{length, getD, drop, length-set}
 use lib.Seq.{getD-set-same, getD-set-other, drop-set-lt}
 use borrow.Author.Tests.{eq-eqb, eqb-true, eqb-false, ltb-true, ltb-false}
 use Rattle.bits.specs.Bit.{bit}
-use Rattle.range_bitset.specs.Layout.{blocks, needed, Slot, word, nonzero, full, population, topNonzero, topFull, address, at}
+use Rattle.range_bitset.specs.Layout.{blocks, needed, SamePast, Slot, word, nonzero, full, population, topNonzero, topFull, address, at}
 use Rattle.range_bitset.specs.Inner.{In, kind, index, same, Store, stores, find, AllIn}
 use Rattle.positions.proofs.Bools.{and-left, and-right}
 
@@ -145,3 +145,7 @@ read-bit st i p q e = ap (λ (x : ℕ). bit (getD st x 0) i) (sym p) ∙ sym q �
 
 pub read-at : (st : List ℕ) {a a′ : ℕ} {v : ℕ} → a ≡ a′ → getD st a 0 ≡ v → getD st a′ 0 ≡ v
 read-at st p e = ap (λ (x : ℕ). getD st x 0) (sym p) ∙ e
+
+-- the same word count needs the same numbers
+pub past-same : {W W′ : ℕ} (st st′ : List ℕ) → W′ ≡ W → SamePast W st st′ → SamePast W′ st st′
+past-same st st′ e k = subst (λ (w : ℕ). SamePast w st st′) (sym e) k

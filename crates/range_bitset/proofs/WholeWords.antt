@@ -16,10 +16,10 @@ use Rattle.positions.proofs.Counts.{count-swap, count-same, count-le}
 use Rattle.positions.proofs.Assigned.{assigned-before, assigned-behind, changed-apart}
 use Rattle.bits.specs.Bit.{bit, mask, put}
 use Rattle.bits.proofs.Words.{mask-ext, mask-none, mask-all, put-mask}
-use Rattle.range_bitset.specs.Layout.{blocks, wordsOf, at, word, nonzero, full, population, topNonzero, topFull, Slot}
+use Rattle.range_bitset.specs.Layout.{blocks, wordsOf, at, word, nonzero, full, population, topNonzero, topFull, Slot, SamePast}
 use Rattle.range_bitset.specs.Read.{ALL}
-use Rattle.range_bitset.specs.Represents.{wordOf, anyWord, allWord, valid, nonzeroMask, fullMask, blockCount, anyBlock, allBlock, closed, only, masked, Holds, Stored}
-use Rattle.range_bitset.specs.Inner.{Room, Spans, apart, moved, In, stores, find, AllIn, writeMasks, writeTops, countMoved, Opens, Closes, Kept, Assigns}
+use Rattle.range_bitset.specs.Represents.{wordOf, anyWord, allWord, valid, nonzeroMask, fullMask, blockCount, anyBlock, allBlock, closed, only, masked, StoredOpen, Stored}
+use Rattle.range_bitset.specs.Inner.{Room, Spans, apart, moved, In, stores, find, AllIn, writeMasks, writeTops, countMoved, Opens, Closes, Assigns}
 use Rattle.range_bitset.proofs.Slots.{stores-at, leaves-at, leaves-kept, twice-at, twice-kept}
 use Rattle.range_bitset.proofs.Words.{words-some, block-most}
 use Rattle.range_bitset.proofs.Opening.{open-here}
@@ -73,9 +73,9 @@ module _ (W blk m a b : ℕ) (v : Bool) (l : blk < blocks W) (fit : m < 2 ^ word
     old-most : count s X Y ≤ 4096
     old-most = omega (arith, count-le s X Y)
 
-    words-hold : (st₂ st₃ : List ℕ) (old new : ℕ) → Holds W st s (only blk) → old ≡ count s X Y → new ≡ count (assigned s X Y v) X Y
+    words-hold : (st₂ st₃ : List ℕ) (old new : ℕ) → StoredOpen W st s (only blk) → old ≡ count s X Y → new ≡ count (assigned s X Y v) X Y
         → st₂ ≡ stores W st (writeMasks W st blk m v) → st₃ ≡ stores W st₂ (countMoved W st₂ blk old new)
-        → Holds W st₃ (assigned s X Y v) (only blk)
+        → StoredOpen W st₃ (assigned s X Y v) (only blk)
     unfolding touches nonzeroMask fullMask
     words-hold st₂ st₃ old new r eo en e₂ e₃ =
         rewrite-block W s (assigned s X Y v) blk agree st st₃ r others
@@ -136,7 +136,7 @@ module _ (W blk m a b : ℕ) (v : Bool) (l : blk < blocks W) (fit : m < 2 ^ word
 
   -- the contract of `assign_words`, from those of the functions that it calls
   pub words-assigned : (st st₁ st₂ st₃ st₄ : List ℕ) (old new n : ℕ) → Room W st₁
-      → Opens W blk st st₁ → ((s : Positions) → Holds W st₁ s (only blk) → old ≡ count s (64 * (64 * blk + a)) (64 * (64 * blk + b)))
+      → Opens W blk st st₁ → ((s : Positions) → StoredOpen W st₁ s (only blk) → old ≡ count s (64 * (64 * blk + a)) (64 * (64 * blk + b)))
       → new ≡ cond v (ones m * 64) 0
       → st₂ ≡ stores W st₁ (writeMasks W st₁ blk m v) → st₃ ≡ stores W st₂ (countMoved W st₂ blk old new)
       → n ≡ apart old new → Closes W blk st₃ st₄
@@ -149,7 +149,7 @@ module _ (W blk m a b : ℕ) (v : Bool) (l : blk < blocks W) (fit : m < 2 ^ word
       fresh : (s : Positions) → new ≡ count (assigned s X Y v) X Y
       fresh s = en ∙ value-count m a b 64 v small sp h (omega arith) s X Y (omega arith)
 
-      kept : Kept W st₁ st₃
+      kept : SamePast W st₁ st₃
       kept =
           twice-kept W st₁ (room .long) (writeMasks W st₁ blk m v) (countMoved W st₂ blk old new) (l, (l, omega arith)) (l, omega arith) e₂ e₃
 
@@ -272,7 +272,7 @@ pub blocks-assigned : (W m a b : ℕ) (v : Bool) → m < 2 ^ blocks W → Spans 
     → Assigns W (4096 * a) (4096 * b) v st st₂ n
 blocks-assigned W m a b v fit sp h u st st₂ room old new n eo en e ed =
     record {
-      kept = leaves-kept W st (room .long) (writeTops W st m v) (omega arith) e;
+      storage-kept = leaves-kept W st (room .long) (writeTops W st m v) (omega arith) e;
       holds = λ s r. subst (λ (x : List ℕ). Stored W x (assigned s (4096 * a) (4096 * b) v)) (sym e) (blocks-hold W m a b v fit sp h u st room s r);
       changed = λ s r.
           ed ∙ ap₂ apart (eo s r) (fresh s) ∙ changed-apart s (4096 * a) (4096 * b) v (4096 * a) (4096 * b) (omega arith) (omega arith);

@@ -17,7 +17,7 @@ use Rattle.bits.proofs.Bits.{bit-zero, bit-ones}
 use Rattle.bits.proofs.Words.{mask-lt, mask-at, mask-ext, mask-none, mask-all, mask-ones}
 use Rattle.range_bitset.specs.Layout.{blocks, wordsOf, at, word, nonzero, full}
 use Rattle.range_bitset.specs.Read.{ALL, stateOf, mixedRead, wordRead, byState}
-use Rattle.range_bitset.specs.Represents.{wordOf, anyWord, allWord, valid, nonzeroMask, fullMask, blockCount, anyBlock, allBlock, closed, masked, Holds, Stored}
+use Rattle.range_bitset.specs.Represents.{wordOf, anyWord, allWord, valid, nonzeroMask, fullMask, blockCount, anyBlock, allBlock, closed, masked, StoredOpen, Stored}
 use Rattle.range_bitset.specs.declared.State.{State}
 use Rattle.range_bitset.specs.declared.State.the-variants.{Empty, Mixed, Full}
 
@@ -173,7 +173,7 @@ module _ (W : ℕ) (s : Positions) (b : ℕ) where
 
 -- ---- what a storage that holds the set reads
 
-module _ (W : ℕ) (st : List ℕ) (s : Positions) (o : ℕ → Bool) (h : Holds W st s o) where
+module _ (W : ℕ) (st : List ℕ) (s : Positions) (o : ℕ → Bool) (h : StoredOpen W st s o) where
   pub state-is : (b : ℕ) → b < blocks W → stateOf W st b ≡ cond (not (o b) && allBlock W s b) Full (cond (o b || anyBlock W s b) Mixed Empty)
   unfolding stateOf
   state-is b l =

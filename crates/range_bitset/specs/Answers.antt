@@ -1,9 +1,10 @@
--- What the entries answer, as 01's numbers: one reply for each case of each answer enum; and the refusals, in 01's order.
+-- What the entries answer: the reply of each answer enum; and the refusals, in 01's order.
 -- Assumes nothing.
 use mathlib.Core.Bool.{Bool, _&&_, cond}
 use Prim.Native.Nat.{ℕ, _/_, _%_}
 use lib.Dec.{eqb, leb, ltb}
-use Rattle.positions.specs.Positions.{one, Found, At, None}
+use Rattle.positions.specs.Positions.{one}
+use Rattle.positions.specs.Replies.{Reply, number, nothing, refusal}
 use Rattle.range_bitset.specs.Layout.{allowed, needed}
 use Rattle.range_bitset.specs.Represents.{capacityOf}
 use Rattle.range_bitset.specs.declared.RangeBitset.{RangeBitset}
@@ -11,43 +12,22 @@ use Rattle.range_bitset.specs.declared.Counted.{Counted}
 use Rattle.range_bitset.specs.declared.Counted.the-variants as counted
 use Rattle.range_bitset.specs.declared.Tested.{Tested}
 use Rattle.range_bitset.specs.declared.Tested.the-variants as tested
-use Rattle.range_bitset.specs.declared.Found.{Found as Place}
-use Rattle.range_bitset.specs.declared.Found.the-variants as place
-
-pub data Reply : Type 0 where
-  Number : ℕ → Reply
-  Nothing : Reply
-  Refusal : ℕ → Reply
+use Rattle.range_bitset.specs.declared.Found.{Found}
+use Rattle.range_bitset.specs.declared.Found.the-variants as found
 
 -- a count; a truth, as 1 or 0; a position or none
 abbrev pub ofCounted : Counted → Reply
-ofCounted (counted.Count n) = Number n
-ofCounted (counted.Refused k) = Refusal k
+ofCounted (counted.Count n) = number n
+ofCounted (counted.Refused k) = refusal k
 
 abbrev pub ofTested : Tested → Reply
-ofTested (tested.Is b) = Number (one b)
-ofTested (tested.Refused k) = Refusal k
-
-abbrev pub ofPlace : Place → Reply
-ofPlace (place.At i) = Number i
-ofPlace place.Nothing = Nothing
-ofPlace (place.Refused k) = Refusal k
+ofTested (tested.Is b) = number (one b)
+ofTested (tested.Refused k) = refusal k
 
 abbrev pub ofFound : Found → Reply
-ofFound (At i) = Number i
-ofFound None = Nothing
-
--- the number of the refusal in a reply; 0: accepted
-abbrev pub refused : Reply → ℕ
-refused (Number n) = 0
-refused Nothing = 0
-refused (Refusal k) = k
-
--- no refusal, not even one with a number that 01 does not have
-abbrev pub Accepted : Reply → Type 0
-Accepted (Number n) = Unit {0}
-Accepted Nothing = Unit {0}
-Accepted (Refusal k) = ⊥
+ofFound (found.At i) = number i
+ofFound found.Nothing = nothing
+ofFound (found.Refused k) = refusal k
 
 -- ---- the refusals of 01's table, 0 where a call is accepted
 

@@ -6,13 +6,13 @@ use mathlib.Core.List.{List, [], _∷_}
 use Prim.Native.Nat.{ℕ, suc, _+_, _*_, _-_, _/_, _%_, _^_, _≤_, _<_, min}
 use lib.Dec.{eqb}
 use lib.Count.{ones, trailingZeros}
-use lib.ListN.{length, drop, set}
+use lib.ListN.{length, set}
 use Rattle.positions.specs.Positions.{Positions, within, assigned, changedCount, count, sumOver}
 use Rattle.positions.specs.Walks.{Lacks, Stops}
 use Rattle.bits.specs.Bit.{bit, put}
-use Rattle.range_bitset.specs.Layout.{blocks, wordsOf, needed, Slot, word, nonzero, full, population, topNonzero, topFull, address, at}
+use Rattle.range_bitset.specs.Layout.{blocks, wordsOf, needed, SamePast, Slot, word, nonzero, full, population, topNonzero, topFull, address, at}
 use Rattle.range_bitset.specs.Read.{ALL, stateOf, mixedRead, wordRead}
-use Rattle.range_bitset.specs.Represents.{only, Holds, Stored}
+use Rattle.range_bitset.specs.Represents.{only, StoredOpen, Stored}
 use Rattle.range_bitset.specs.declared.State.{State}
 use Rattle.range_bitset.specs.declared.State.the-variants.{Empty, Mixed, Full}
 
@@ -126,27 +126,23 @@ beginning = topFull ≔ 0 ∷ topNonzero ≔ 0 ∷ []
 
 -- ---- what the functions that decide give back, for every set that the storage holds
 
--- the numbers past those needed are as they were
-abbrev pub Kept : ℕ → List ℕ → List ℕ → Type 0
-Kept W st st′ = drop (needed W) st′ ≡ drop (needed W) st
-
 pub record Opens (W b : ℕ) (st st′ : List ℕ) : Type 0 where
-  pub kept : Kept W st st′
-  pub holds : (s : Positions) → Stored W st s → Holds W st′ s (only b)
+  pub storage-kept : SamePast W st st′
+  pub holds : (s : Positions) → Stored W st s → StoredOpen W st′ s (only b)
 
 pub record Closes (W b : ℕ) (st st′ : List ℕ) : Type 0 where
-  pub kept : Kept W st st′
-  pub holds : (s : Positions) → Holds W st s (only b) → Stored W st′ s
+  pub storage-kept : SamePast W st st′
+  pub holds : (s : Positions) → StoredOpen W st s (only b) → Stored W st′ s
 
 -- a..e is given the value v, and r positions change
 pub record Assigns (W a e : ℕ) (v : Bool) (st st′ : List ℕ) (r : ℕ) : Type 0 where
-  pub kept : Kept W st st′
+  pub storage-kept : SamePast W st st′
   pub holds : (s : Positions) → Stored W st s → Stored W st′ (assigned s a e v)
   pub changed : (s : Positions) → Stored W st s → r ≡ changedCount s a e v
 
 -- the storage is begun, unless it was
 pub record Begins (W : ℕ) (begun : Bool) (st st′ : List ℕ) : Type 0 where
-  pub kept : Kept W st st′
+  pub storage-kept : SamePast W st st′
   pub holds : (s : Positions) → (begun ≡ true → Stored W st s) → (begun ≡ false → (i : ℕ) → i < 64 * W → s i ≡ false) → Stored W st′ s
 
 -- ---- what the functions that read give back

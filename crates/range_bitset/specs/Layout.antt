@@ -1,10 +1,11 @@
 -- Where each number of a set of W words lies in its storage: 01's "Storage". Assumes nothing.
+use mathlib.Core.Path.{_≡_}
 use mathlib.Core.Bool.{Bool, _&&_}
 use mathlib.Core.List.{List}
 use Prim.Native.Nat.{ℕ, _+_, _*_, _-_, _/_, min}
 use lib.Count.{ones}
 use lib.Dec.{eqb, leb}
-use lib.ListN.{getD}
+use lib.ListN.{getD, drop}
 
 -- W is a power of two from 1 to 4,096: the one place that asks for a power of two
 unfoldable pub allowed : ℕ → Bool
@@ -21,6 +22,10 @@ wordsOf W b = min 64 (W - 64 * b)
 -- how many numbers the storage needs
 abbrev pub needed : ℕ → ℕ
 needed W = W + 3 * blocks W + 2
+
+-- the numbers past those that W words need are as they were
+abbrev pub SamePast : ℕ → List ℕ → List ℕ → Type 0
+SamePast W st st′ = drop (needed W) st′ ≡ drop (needed W) st
 
 -- a storage number, by what it is
 pub data Slot : Type 0 where

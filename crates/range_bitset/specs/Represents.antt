@@ -60,7 +60,7 @@ abbrev pub masked : ℕ → Positions → (ℕ → Bool) → ℕ → Bool
 masked W s o b = o b || (anyBlock W s b && not (allBlock W s b))
 
 -- the storage holds s
-pub record Holds (W : ℕ) (st : List ℕ) (s : Positions) (o : ℕ → Bool) : Type 0 where
+pub record StoredOpen (W : ℕ) (st : List ℕ) (s : Positions) (o : ℕ → Bool) : Type 0 where
   pub top-nonzero : at W st topNonzero ≡ mask (blocks W) (λ b. o b || anyBlock W s b)
   pub top-full : at W st topFull ≡ mask (blocks W) (λ b. not (o b) && allBlock W s b)
   pub nonzeros : (b : ℕ) → b < blocks W → masked W s o b ≡ true → at W st (nonzero b) ≡ nonzeroMask W s b
@@ -71,7 +71,7 @@ pub record Holds (W : ℕ) (st : List ℕ) (s : Positions) (o : ℕ → Bool) : 
 
 -- the storage holds s, with no block open
 abbrev pub Stored : ℕ → List ℕ → Positions → Type 0
-Stored W st s = Holds W st s closed
+Stored W st s = StoredOpen W st s closed
 
 -- 01's capacity
 abbrev pub capacityOf : RangeBitset → ℕ

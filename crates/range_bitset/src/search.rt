@@ -5,7 +5,8 @@ ghost use Prim.Native.Nat.{_*_, _-_, _<_};
 ghost use Rattle.positions.specs.Walks.{below};
 ghost use Rattle.range_bitset.specs.Layout.{blocks, at};
 ghost use Rattle.range_bitset.specs.Read.{ALL, wordRead};
-ghost use Rattle.range_bitset.specs.Answers.{ofPlace, ofFound};
+ghost use Rattle.positions.specs.Replies.{ofPlace};
+ghost use Rattle.range_bitset.specs.Answers.{ofFound};
 ghost use Rattle.range_bitset.specs.Entries.{NextEnsures};
 ghost use Rattle.range_bitset.specs.Inner.{Room, CandidateWords, CandidateBlocks, NextInWord, NextAfter, BitsFrom};
 use crate::Found;
@@ -105,7 +106,7 @@ impl RangeBitset {
 
     // A position that was found, if it is below `end`.
     fn below(at: usize, end: usize) -> Found
-        ensures { λ r. ⌜ ofPlace r ≡ ofFound (below at end) ⌝ }
+        ensures { λ r. ⌜ ofFound r ≡ ofPlace (below at end) ⌝ }
     {
         if at < end {
             Found::At(at)

@@ -5,7 +5,8 @@ use mathlib.Core.List.{List, [], _∷_, _++_}
 use Prim.Native.Nat.{ℕ}
 use Rattle.positions.specs.Runs.{run}
 use Rattle.saved_list.specs.Format.{runAt, runsAfter, savedRuns, savedPositions, firstBad, firstBadHeld}
-use Rattle.saved_list.specs.Answers.{gives, refuses, headerOf, lengthOf, runsOf}
+use Rattle.positions.specs.Replies.{Numbers, Refusal}
+use Rattle.saved_list.specs.Answers.{headerReply, lengthReply, runsReply}
 
 -- version 1, W = 2 (capacity 128), n as given
 head : ℕ → List ℕ
@@ -19,16 +20,16 @@ entry a e = 0 ∷ 0 ∷ 0 ∷ a ∷ 0 ∷ 0 ∷ 0 ∷ e ∷ []
 good : List ℕ
 good = head 2 ++ (entry 10 70 ++ entry 100 128)
 
-good-header : headerOf good ≡ gives (2 ∷ 2 ∷ [])
-unfolding headerOf good head entry
+good-header : headerReply good ≡ Numbers (2 ∷ 2 ∷ [])
+unfolding headerReply good head entry
 good-header = refl
 
-good-length : lengthOf good ≡ gives []
-unfolding lengthOf good head entry
+good-length : lengthReply good ≡ Numbers []
+unfolding lengthReply good head entry
 good-length = refl
 
-good-runs : runsOf good ≡ gives []
-unfolding runsOf firstBadHeld firstBad runsAfter runAt good head entry
+good-runs : runsReply good ≡ Numbers []
+unfolding runsReply firstBadHeld firstBad runsAfter runAt good head entry
 good-runs = refl
 
 good-list : savedRuns good ≡ run 10 70 ∷ run 100 128 ∷ []
@@ -40,26 +41,26 @@ unfolding savedPositions savedRuns runsAfter runAt good head entry
 good-set = (refl, refl, refl)
 
 -- the second run starts at the end of the first
-touching : runsOf (head 2 ++ (entry 10 70 ++ entry 70 71)) ≡ refuses 8 (1 ∷ [])
-unfolding runsOf firstBadHeld firstBad runsAfter runAt head entry
+touching : runsReply (head 2 ++ (entry 10 70 ++ entry 70 71)) ≡ Refusal 8 (1 ∷ [])
+unfolding runsReply firstBadHeld firstBad runsAfter runAt head entry
 touching = refl
 
 -- one above it is good
-apart : runsOf (head 2 ++ (entry 10 70 ++ entry 71 72)) ≡ gives []
-unfolding runsOf firstBadHeld firstBad runsAfter runAt head entry
+apart : runsReply (head 2 ++ (entry 10 70 ++ entry 71 72)) ≡ Numbers []
+unfolding runsReply firstBadHeld firstBad runsAfter runAt head entry
 apart = refl
 
 -- start and end are equal
-empty-run : runsOf (head 1 ++ entry 5 5) ≡ refuses 8 (0 ∷ [])
-unfolding runsOf firstBadHeld firstBad runsAfter runAt head entry
+empty-run : runsReply (head 1 ++ entry 5 5) ≡ Refusal 8 (0 ∷ [])
+unfolding runsReply firstBadHeld firstBad runsAfter runAt head entry
 empty-run = refl
 
 -- an end above the capacity
-above-capacity : runsOf (head 1 ++ entry 0 129) ≡ refuses 8 (0 ∷ [])
-unfolding runsOf firstBadHeld firstBad runsAfter runAt head entry
+above-capacity : runsReply (head 1 ++ entry 0 129) ≡ Refusal 8 (0 ∷ [])
+unfolding runsReply firstBadHeld firstBad runsAfter runAt head entry
 above-capacity = refl
 
 -- 11 bytes that claim 2^32 - 1 runs
-claims-all : lengthOf (77 ∷ 83 ∷ 76 ∷ 0 ∷ 1 ∷ 0 ∷ 2 ∷ 255 ∷ 255 ∷ 255 ∷ 255 ∷ []) ≡ refuses 7 []
-unfolding lengthOf
+claims-all : lengthReply (77 ∷ 83 ∷ 76 ∷ 0 ∷ 1 ∷ 0 ∷ 2 ∷ 255 ∷ 255 ∷ 255 ∷ 255 ∷ []) ≡ Refusal 7 []
+unfolding lengthReply
 claims-all = refl

@@ -7,17 +7,15 @@ use Prim.Native.Nat.{ℕ, _+_, _*_, _≤_, _<_}
 use native.Mathlib.Omega.{arith}
 use borrow.Author.Tests.{ltb-true, ltb-false}
 use lib.Dec.{ltb}
+use Rattle.positions.proofs.Replies.{numbers-refusal}
 use Rattle.positions.specs.Runs.{run, Ascending}
 use Rattle.saved_list.specs.Format.{be32, savedWords, savedCount, savedCapacity, runAt, savedRuns, Headed, Whole, Good, firstBadRun, headed, whole, heldCount, firstBadHeld}
-use Rattle.saved_list.specs.Answers.{gives, refuses, headerOf, lengthOf, runsOf, foundOf}
+use Rattle.positions.specs.Replies.{Numbers, Refusal}
+use Rattle.saved_list.specs.Answers.{headerReply, lengthReply, runsReply, runReply}
 use Rattle.saved_list.proofs.Bytes.{headed-yes, whole-yes, whole-held}
 use Rattle.saved_list.proofs.Rule.{first-bad-le, none-bad, ascending-none}
 use Rattle.saved_list.proofs.Lists.{runs-length}
 use Rattle.saved_list.proofs.Answers.{headed-fields, length-good, runs-good, found-run}
-
--- an accepted answer is no refusal
-pub gives-refuses : (xs ys : List ℕ) (n : ℕ) → gives xs ≡ refuses n ys → ⊥
-gives-refuses xs ys n e = let z : _≡_ {A = ℕ} 0 1 = cc in omega arith
 
 -- ---- the header
 
@@ -26,29 +24,29 @@ pub record HeaderRead (bytes : List ℕ) (words count : ℕ) : Type 0 where
   pub words-read : words ≡ savedWords bytes
   pub count-read : count ≡ savedCount bytes
 
-pub fields-read : (bytes : List ℕ) (words count : ℕ) → gives (words ∷ count ∷ []) ≡ headerOf bytes → HeaderRead bytes words count
-unfolding headerOf
+pub fields-read : (bytes : List ℕ) (words count : ℕ) → Numbers (words ∷ count ∷ []) ≡ headerReply bytes → HeaderRead bytes words count
+unfolding headerReply
 fields-read bytes words count e = go (headed bytes) refl e
   where
-    go : (b : Bool) → headed bytes ≡ b → gives (words ∷ count ∷ []) ≡ cond b (gives (savedWords bytes ∷ savedCount bytes ∷ [])) (refuses 7 []) → HeaderRead bytes words count
+    go : (b : Bool) → headed bytes ≡ b → Numbers (words ∷ count ∷ []) ≡ cond b (Numbers (savedWords bytes ∷ savedCount bytes ∷ [])) (Refusal 7 []) → HeaderRead bytes words count
     go true x e = record { headed = headed-yes bytes x; words-read = cc; count-read = cc }
-    go false x e = absurd (gives-refuses _ _ _ e)
+    go false x e = absurd (numbers-refusal _ _ _ e)
 
-pub header-refused : (bytes : List ℕ) → refuses 7 [] ≡ headerOf bytes → Headed bytes → ⊥
-header-refused bytes e h = gives-refuses _ _ _ (sym (e ∙ headed-fields bytes h))
+pub header-refused : (bytes : List ℕ) → Refusal 7 [] ≡ headerReply bytes → Headed bytes → ⊥
+header-refused bytes e h = numbers-refusal _ _ _ (sym (e ∙ headed-fields bytes h))
 
 -- ---- the length
 
-pub length-whole : (bytes : List ℕ) → gives [] ≡ lengthOf bytes → Whole bytes
-unfolding lengthOf
+pub length-whole : (bytes : List ℕ) → Numbers [] ≡ lengthReply bytes → Whole bytes
+unfolding lengthReply
 length-whole bytes e = go (whole bytes) refl e
   where
-    go : (b : Bool) → whole bytes ≡ b → gives [] ≡ cond b (gives []) (refuses 7 []) → Whole bytes
+    go : (b : Bool) → whole bytes ≡ b → Numbers [] ≡ cond b (Numbers []) (Refusal 7 []) → Whole bytes
     go true x e = whole-yes bytes x
-    go false x e = absurd (gives-refuses _ _ _ e)
+    go false x e = absurd (numbers-refusal _ _ _ e)
 
-pub length-refused : (bytes : List ℕ) → refuses 7 [] ≡ lengthOf bytes → Whole bytes → ⊥
-length-refused bytes e h = gives-refuses _ _ _ (sym (e ∙ length-good bytes h))
+pub length-refused : (bytes : List ℕ) → Refusal 7 [] ≡ lengthReply bytes → Whole bytes → ⊥
+length-refused bytes e h = numbers-refusal _ _ _ (sym (e ∙ length-good bytes h))
 
 -- ---- the run rule
 
@@ -77,46 +75,46 @@ module _ (bytes : List ℕ) (h : Whole bytes) where
   unfolding firstBadHeld firstBadRun savedRuns
   held-run = rw (whole-held bytes h)
 
-  pub runs-ascending : gives [] ≡ runsOf bytes → Ascending 0 (savedCapacity bytes) (savedRuns bytes)
-  unfolding runsOf
+  pub runs-ascending : Numbers [] ≡ runsReply bytes → Ascending 0 (savedCapacity bytes) (savedRuns bytes)
+  unfolding runsReply
   runs-ascending e = go (ltb (firstBadHeld bytes) (heldCount bytes)) refl e
     where
       go : (b : Bool) → ltb (firstBadHeld bytes) (heldCount bytes) ≡ b
-          → gives [] ≡ cond b (refuses 8 (firstBadHeld bytes ∷ [])) (gives []) → Ascending 0 (savedCapacity bytes) (savedRuns bytes)
-      go true x e = absurd (gives-refuses _ _ _ e)
+          → Numbers [] ≡ cond b (Refusal 8 (firstBadHeld bytes ∷ [])) (Numbers []) → Ascending 0 (savedCapacity bytes) (savedRuns bytes)
+      go true x e = absurd (numbers-refusal _ _ _ e)
       go false x e =
           count-ascending bytes
           (omega (arith, ltb-false (firstBadHeld bytes) (heldCount bytes) x, held-run, first-bad-most bytes, whole-held bytes h))
 
-  pub runs-refused : (k : ℕ) → refuses 8 (k ∷ []) ≡ runsOf bytes → FirstBad bytes k
-  unfolding runsOf
+  pub runs-refused : (k : ℕ) → Refusal 8 (k ∷ []) ≡ runsReply bytes → FirstBad bytes k
+  unfolding runsReply
   runs-refused k e = go (ltb (firstBadHeld bytes) (heldCount bytes)) refl e
     where
       go : (b : Bool) → ltb (firstBadHeld bytes) (heldCount bytes) ≡ b
-          → refuses 8 (k ∷ []) ≡ cond b (refuses 8 (firstBadHeld bytes ∷ [])) (gives []) → FirstBad bytes k
+          → Refusal 8 (k ∷ []) ≡ cond b (Refusal 8 (firstBadHeld bytes ∷ [])) (Numbers []) → FirstBad bytes k
       go true x e =
           let p : k ≡ firstBadHeld bytes = cc in
           record {
             below = omega (arith, ltb-true (firstBadHeld bytes) (heldCount bytes) x, whole-held bytes h);
             first = omega (arith, held-run);
           }
-      go false x e = absurd (gives-refuses _ _ _ (sym e))
+      go false x e = absurd (numbers-refusal _ _ _ (sym e))
 
-  pub ascending-runs : Ascending 0 (savedCapacity bytes) (savedRuns bytes) → runsOf bytes ≡ gives []
+  pub ascending-runs : Ascending 0 (savedCapacity bytes) (savedRuns bytes) → runsReply bytes ≡ Numbers []
   ascending-runs p = runs-good bytes (omega (arith, held-run, ascending-count bytes p, whole-held bytes h))
 
   -- the run of an index below n is found
-  pub run-found : (i : ℕ) → i < savedCount bytes → foundOf bytes i ≡ gives (runAt bytes i .start ∷ runAt bytes i .end ∷ [])
+  pub run-found : (i : ℕ) → i < savedCount bytes → runReply bytes i ≡ Numbers (runAt bytes i .start ∷ runAt bytes i .end ∷ [])
   run-found i k = found-run bytes i (omega (arith, whole-held bytes h))
 
 -- ---- the run at an index
 
-pub found-is : (bytes : List ℕ) (i start end : ℕ) → gives (start ∷ end ∷ []) ≡ foundOf bytes i → (i < heldCount bytes) × (runAt bytes i ≡ run start end)
-unfolding foundOf runAt
+pub found-is : (bytes : List ℕ) (i start end : ℕ) → Numbers (start ∷ end ∷ []) ≡ runReply bytes i → (i < heldCount bytes) × (runAt bytes i ≡ run start end)
+unfolding runReply runAt
 found-is bytes i start end e = go (ltb i (heldCount bytes)) refl e
   where
     go : (b : Bool) → ltb i (heldCount bytes) ≡ b
-        → gives (start ∷ end ∷ []) ≡ cond b (gives (runAt bytes i .start ∷ runAt bytes i .end ∷ [])) (gives [])
+        → Numbers (start ∷ end ∷ []) ≡ cond b (Numbers (runAt bytes i .start ∷ runAt bytes i .end ∷ [])) (Numbers [])
         → (i < heldCount bytes) × (runAt bytes i ≡ run start end)
     go true x e = (ltb-true i (heldCount bytes) x, same)
       where
@@ -124,12 +122,12 @@ found-is bytes i start end e = go (ltb i (heldCount bytes)) refl e
         same = cc
     go false x e = let z : _≡_ {A = ℕ} 0 1 = cc in absurd (omega arith)
 
-pub found-none : (bytes : List ℕ) (i : ℕ) → gives [] ≡ foundOf bytes i → heldCount bytes ≤ i
-unfolding foundOf
+pub found-none : (bytes : List ℕ) (i : ℕ) → Numbers [] ≡ runReply bytes i → heldCount bytes ≤ i
+unfolding runReply
 found-none bytes i e = go (ltb i (heldCount bytes)) refl e
   where
     go : (b : Bool) → ltb i (heldCount bytes) ≡ b
-        → gives [] ≡ cond b (gives (runAt bytes i .start ∷ runAt bytes i .end ∷ [])) (gives [])
+        → Numbers [] ≡ cond b (Numbers (runAt bytes i .start ∷ runAt bytes i .end ∷ [])) (Numbers [])
         → heldCount bytes ≤ i
     go true x e = let z : _≡_ {A = ℕ} 0 1 = cc in absurd (omega arith)
     go false x e = ltb-false i (heldCount bytes) x
@@ -137,9 +135,9 @@ found-none bytes i e = go (ltb i (heldCount bytes)) refl e
 -- ---- the three together accept exactly the good files
 
 pub record Accepted (bytes : List ℕ) : Type 0 where
-  pub by-header : headerOf bytes ≡ gives (savedWords bytes ∷ savedCount bytes ∷ [])
-  pub by-length : lengthOf bytes ≡ gives []
-  pub by-runs : runsOf bytes ≡ gives []
+  pub by-header : headerReply bytes ≡ Numbers (savedWords bytes ∷ savedCount bytes ∷ [])
+  pub by-length : lengthReply bytes ≡ Numbers []
+  pub by-runs : runsReply bytes ≡ Numbers []
 
 pub accepted-good : (bytes : List ℕ) → Accepted bytes → Good bytes
 accepted-good bytes a =

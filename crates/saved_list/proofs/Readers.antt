@@ -30,7 +30,7 @@ use Rattle.saved_list.proofs.Stepped as O
 use Rattle.saved_list.proofs.Stepped.Laws as O′
 use Rattle.saved_list.proofs.TwoRuns as P
 use Rattle.saved_list.proofs.TwoRuns.Laws as P′
-use Rattle.saved_list.specs.Answers.{foundAnswer, foundOf, indexAfter}
+use Rattle.saved_list.specs.Answers.{ofFoundRun, runReply, indexAfter}
 use mathlib.Core.Path.{_∙_}
 use lib.Dec.{T as Holds}
 use mir.Val.{hasTy, WT}
@@ -47,12 +47,12 @@ index-fits r vs is = LL.owed O.the-type O′.the-laws r vs is .1 .0 .1
 
 -- what a step from the reader d to the reader z says of its run, and what two steps in turn say
 abbrev pub Says : Runs → FoundRun → Runs → Type 0
-Says d r z = (foundAnswer r ≡ foundOf (now (d .file)) (d .at)) × (z .file ≡ d .file) × (z .at ≡ indexAfter (now (d .file)) (d .at))
+Says d r z = (ofFoundRun r ≡ runReply (now (d .file)) (d .at)) × (z .file ≡ d .file) × (z .at ≡ indexAfter (now (d .file)) (d .at))
 
 pub in-turn : (d : Runs) (r r′ : FoundRun) (z z′ : Runs) → Says d r z → Says z r′ z′
-    → (foundAnswer r′ ≡ foundOf (now (d .file)) (indexAfter (now (d .file)) (d .at))) × (z′ .at ≡ indexAfter (now (d .file)) (indexAfter (now (d .file)) (d .at)))
+    → (ofFoundRun r′ ≡ runReply (now (d .file)) (indexAfter (now (d .file)) (d .at))) × (z′ .at ≡ indexAfter (now (d .file)) (indexAfter (now (d .file)) (d .at)))
 in-turn d r r′ z z′ e e′ =
-    (e′ .0 ∙ ap (λ (x : RefT (List ℕ)). foundOf (now x) (z .at)) (e .1) ∙ ap (foundOf (now (d .file))) (e .2), e′ .2 ∙ ap (λ (x : RefT (List ℕ)). indexAfter (now x) (z .at)) (e .1) ∙ ap (indexAfter (now (d .file))) (e .2))
+    (e′ .0 ∙ ap (λ (x : RefT (List ℕ)). runReply (now x) (z .at)) (e .1) ∙ ap (runReply (now (d .file))) (e .2), e′ .2 ∙ ap (λ (x : RefT (List ℕ)). indexAfter (now x) (z .at)) (e .1) ∙ ap (indexAfter (now (d .file))) (e .2))
 
 -- two runs in turn
 abbrev pub two : FoundRun → FoundRun → ℕ → TwoRuns

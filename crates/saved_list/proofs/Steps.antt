@@ -8,36 +8,37 @@ use borrow.Author.Tests.{ltb-true}
 use lib.Dec.{ltb}
 use lib.ListN.{length}
 use Rattle.saved_list.specs.Format.{runAt, heldCount}
-use Rattle.saved_list.specs.Answers.{Answer, gives, refuses, foundAnswer, foundOf, indexAfter}
+use Rattle.positions.specs.Replies.{Reply, Numbers, Refusal}
+use Rattle.saved_list.specs.Answers.{ofFoundRun, runReply, indexAfter}
 use Rattle.saved_list.specs.declared.FoundRun.the-variants.{At, End}
 
 -- how many values an answer has
-abbrev size : Answer → ℕ
-size (gives xs) = length xs
-size (refuses k xs) = length xs
+abbrev size : Reply → ℕ
+size (Numbers xs) = length xs
+size (Refusal k xs) = length xs
 
 module _ (bytes : List ℕ) (i : ℕ) where
   -- a run is given only below the count of runs held
-  held-of : (start end : ℕ) → foundAnswer (At start end) ≡ foundOf bytes i → ltb i (heldCount bytes) ≡ true
-  unfolding foundOf
+  held-of : (start end : ℕ) → ofFoundRun (At start end) ≡ runReply bytes i → ltb i (heldCount bytes) ≡ true
+  unfolding runReply
   held-of start end = by (ltb i (heldCount bytes))
     where
-      by : (t : Bool) → gives (start ∷ end ∷ []) ≡ cond t (gives (runAt bytes i .start ∷ runAt bytes i .end ∷ [])) (gives []) → t ≡ true
+      by : (t : Bool) → Numbers (start ∷ end ∷ []) ≡ cond t (Numbers (runAt bytes i .start ∷ runAt bytes i .end ∷ [])) (Numbers []) → t ≡ true
       by true e = refl
       by false e = absurd (omega (arith, ap size e))
 
   -- so the index after it is a number below the bytes' count
-  pub run-below : (start end : ℕ) → foundAnswer (At start end) ≡ foundOf bytes i → i + 1 ≤ length bytes
+  pub run-below : (start end : ℕ) → ofFoundRun (At start end) ≡ runReply bytes i → i + 1 ≤ length bytes
   run-below start end e = omega (arith, ltb-true i (heldCount bytes) (held-of start end e))
 
-  pub at-moves : (start end : ℕ) → foundAnswer (At start end) ≡ foundOf bytes i → i + 1 ≡ indexAfter bytes i
+  pub at-moves : (start end : ℕ) → ofFoundRun (At start end) ≡ runReply bytes i → i + 1 ≡ indexAfter bytes i
   unfolding indexAfter
   at-moves start end e = rw (held-of start end e)
 
-  pub end-stays : foundAnswer End ≡ foundOf bytes i → i ≡ indexAfter bytes i
-  unfolding foundOf indexAfter
+  pub end-stays : ofFoundRun End ≡ runReply bytes i → i ≡ indexAfter bytes i
+  unfolding runReply indexAfter
   end-stays = by (ltb i (heldCount bytes))
     where
-      by : (t : Bool) → gives [] ≡ cond t (gives (runAt bytes i .start ∷ runAt bytes i .end ∷ [])) (gives []) → i ≡ cond t (i + 1) i
+      by : (t : Bool) → Numbers [] ≡ cond t (Numbers (runAt bytes i .start ∷ runAt bytes i .end ∷ [])) (Numbers []) → i ≡ cond t (i + 1) i
       by true e = absurd (omega (arith, ap size e))
       by false e = refl

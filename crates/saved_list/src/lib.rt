@@ -6,7 +6,7 @@ ghost use Prim.Native.Nat.{_+_, _*_, _≤_};
 ghost use lib.ListN.{length};
 ghost use Rattle.positions.specs.Runs.{run};
 ghost use Rattle.saved_list.specs.Format.{be16 as big16, be32 as big32, mark, begins, ruled};
-ghost use Rattle.saved_list.specs.Answers.{headerAnswer, headerOf, lengthAnswer, lengthOf, runsAnswer, runsOf, foundAnswer, foundOf, indexAfter};
+ghost use Rattle.saved_list.specs.Answers.{ofHeader, headerReply, ofLengthCheck, lengthReply, ofRunCheck, runsReply, ofFoundRun, runReply, indexAfter};
 
 // The letters that a saved list begins with: compared on opening.
 const MARK: [u8; 3] = *b"MSL";
@@ -78,7 +78,7 @@ pub enum Header {
 
 // The header of a file.
 pub fn read_header(file: &[u8]) -> Header
-    ensures { λ r. ⌜ headerAnswer r ≡ headerOf (now (file .entry)) ⌝ }
+    ensures { λ r. ⌜ ofHeader r ≡ headerReply (now (file .entry)) ⌝ }
 {
     if file.len() < HEADER_SIZE {
         return Header::BadHeader;
@@ -101,7 +101,7 @@ pub enum LengthCheck {
 
 // Whether a file has the length that its run count asks. No file under 11 bytes has it.
 pub fn check_length(file: &[u8]) -> LengthCheck
-    ensures { λ r. ⌜ lengthAnswer r ≡ lengthOf (now (file .entry)) ⌝ }
+    ensures { λ r. ⌜ ofLengthCheck r ≡ lengthReply (now (file .entry)) ⌝ }
 {
     if file.len() < HEADER_SIZE {
         return LengthCheck::BadLength;
@@ -122,7 +122,7 @@ pub enum FoundRun {
 
 // The run of an index. `End` where the bytes do not hold it whole.
 pub fn run_at(file: &[u8], index: usize) -> FoundRun
-    ensures { λ r. ⌜ foundAnswer r ≡ foundOf (now (file .entry)) index ⌝ }
+    ensures { λ r. ⌜ ofFoundRun r ≡ runReply (now (file .entry)) index ⌝ }
 {
     if file.len() < HEADER_SIZE {
         return FoundRun::End;
@@ -157,7 +157,7 @@ fn keeps_rule(low: u32, capacity: u32, start: u32, end: u32) -> bool
 
 // The first run that breaks the rule, in one pass over the bytes after the header.
 pub fn check_runs(file: &[u8]) -> RunCheck
-    ensures { λ r. ⌜ runsAnswer r ≡ runsOf (now (file .entry)) ⌝ }
+    ensures { λ r. ⌜ ofRunCheck r ≡ runsReply (now (file .entry)) ⌝ }
 {
     if file.len() < HEADER_SIZE {
         return RunCheck::AllGood;
@@ -187,7 +187,7 @@ pub struct Stepped {
 
 // The work of one step, on a slice and an index.
 pub fn step_at(file: &[u8], at: usize) -> Stepped
-    ensures { λ r. ⌜ (foundAnswer (r .run) ≡ foundOf (now (file .entry)) at) × (r .at ≡ indexAfter (now (file .entry)) at) ⌝ }
+    ensures { λ r. ⌜ (ofFoundRun (r .run) ≡ runReply (now (file .entry)) at) × (r .at ≡ indexAfter (now (file .entry)) at) ⌝ }
 {
     match run_at(file, at) {
         FoundRun::At(start, end) => Stepped {
@@ -209,7 +209,7 @@ pub struct Runs<'a> {
 
 // One step: gives the next run, or none, and moves the reader on by one where there is a run.
 pub fn step<'s, 'a>(r: &'s mut Runs<'a>) -> FoundRun
-    ensures { λ x. ⌜ (foundAnswer x ≡ foundOf (now (now (r .entry) .file)) (now (r .entry) .at))
+    ensures { λ x. ⌜ (ofFoundRun x ≡ runReply (now (now (r .entry) .file)) (now (r .entry) .at))
         × (now (r .exit) .file ≡ now (r .entry) .file)
         × (now (r .exit) .at ≡ indexAfter (now (now (r .entry) .file)) (now (r .entry) .at)) ⌝ }
 {
@@ -228,8 +228,8 @@ pub struct TwoRuns {
 // The run of an index and the one after it: one reader in a local, lent to two steps, the second from where the first left
 // it. It has plain parameters, so that covered code can run it.
 pub fn two_steps(file: &[u8], index: usize) -> TwoRuns
-    ensures { λ r. ⌜ (foundAnswer (r .first) ≡ foundOf (now (file .entry)) index)
-        × (foundAnswer (r .second) ≡ foundOf (now (file .entry)) (indexAfter (now (file .entry)) index))
+    ensures { λ r. ⌜ (ofFoundRun (r .first) ≡ runReply (now (file .entry)) index)
+        × (ofFoundRun (r .second) ≡ runReply (now (file .entry)) (indexAfter (now (file .entry)) index))
         × (r .at ≡ indexAfter (now (file .entry)) (indexAfter (now (file .entry)) index)) ⌝ }
 {
     let mut reader = Runs { file, at: index };

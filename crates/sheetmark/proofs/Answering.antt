@@ -10,7 +10,7 @@ use Rattle.command_lines.specs.declared.Gathered.{Gathered}
 use Rattle.command_lines.specs.declared.Answer.{Answer}
 use Rattle.command_lines.specs.Lines.{meaning}
 use Rattle.command_lines.specs.Answers.{printed}
-use Rattle.command_lines.specs.Input.{linesFrom, upTo, ends, Gathers, Holds}
+use Rattle.command_lines.specs.Input.{linesFrom, upTo, ends, Gathers, Buffered}
 use Rattle.command_lines.proofs.Filling.{sets-take}
 use Rattle.command_lines.proofs.Buffers.{holds-none, gathers-holds, held-means, lines-ended, lines-open, up-to-open}
 use Rattle.sheetmark.specs.Answering.{State, AnswersLine, Serves, none, line, texts, Part, End, PartAnswered}
@@ -44,9 +44,9 @@ pub record SoFar (text l : List ℕ) (at : ℕ) (s t : State) (out : List ℕ) (
   pub cut : (more : List ℕ) → linesFrom l (text ++ more) ≡ finished ++ linesFrom rest (drop at text ++ more)
   pub serves : Serves s finished answers t
   pub output : take filled out ≡ texts answers
-  pub holds : Holds buffer kept rest
+  pub holds : Buffered buffer kept rest
 
-pub so-far-none : (text l : List ℕ) (s : State) (out : List ℕ) (filled kept : ℕ) (buffer : List ℕ) → filled ≡ 0 → Holds buffer kept l
+pub so-far-none : (text l : List ℕ) (s : State) (out : List ℕ) (filled kept : ℕ) (buffer : List ℕ) → filled ≡ 0 → Buffered buffer kept l
     → SoFar text l 0 s s out filled kept buffer
 so-far-none text l s out filled kept buffer z h =
     record { finished = []; rest = l; answers = []; cut = λ more. refl; serves = none; output = ap (λ (n : ℕ). take n out) z; holds = h }
@@ -68,7 +68,7 @@ so-far-all text l at s t out filled kept buffer h f =
 
 module _ (text l : List ℕ) (at : ℕ) (s t : State) (out : List ℕ) (filled kept : ℕ) (buffer : List ℕ) (r : Gathered) (after : List ℕ)
     (f : SoFar text l at s t out filled kept buffer) (g : Gathers text at buffer kept r after) where
-  held : Holds after (r .kept) (f .rest ++ upTo (drop at text))
+  held : Buffered after (r .kept) (f .rest ++ upTo (drop at text))
   held = gathers-holds text at buffer kept r after (f .rest) g (f .holds)
 
   -- past the newline
@@ -119,7 +119,7 @@ module _ (text l : List ℕ) (at : ℕ) (s t : State) (out : List ℕ) (filled k
 
 -- ---- the input's end
 
-pub end-none : (l buffer : List ℕ) (s : State) (kept : ℕ) → Holds buffer kept l → kept ≡ 0 → 27 < length buffer → End l s s []
+pub end-none : (l buffer : List ℕ) (s : State) (kept : ℕ) → Buffered buffer kept l → kept ≡ 0 → 27 < length buffer → End l s s []
 end-none l buffer s kept h z size = go l (omega (arith, h .filled)) where
   go : (k : List ℕ) → length k ≡ 0 → End k s s []
   go [] e = record { answers = []; serves = none; output = refl }
@@ -134,7 +134,7 @@ only-line l r (x ∷ []) rs s t p q =
     rw y at q
 only-line l r (x ∷ y ∷ e) rs s t p q = absurd (omega (arith, ap length p, length-append e (r ∷ [])))
 
-pub end-line : (l buffer : List ℕ) (s t : State) (out : List ℕ) (kept n : ℕ) (after : List ℕ) → Holds buffer kept l → (kept ≡ 0 → ⊥)
+pub end-line : (l buffer : List ℕ) (s t : State) (out : List ℕ) (kept n : ℕ) (after : List ℕ) → Buffered buffer kept l → (kept ≡ 0 → ⊥)
     → PartAnswered (10 ∷ []) l s t out n after → End l s t out
 unfolding linesFrom
 end-line l buffer s t out kept n after h some a = go l (h .filled) (only-line l (a .rest) (a .part .finished) (a .part .answers) s t (a .part .cut (10 ∷ [])) (a .part .serves)) where

@@ -7,7 +7,7 @@ use Rattle.positions.specs.Positions.{assigned, total, sumOver, countFrom, coun
 use Rattle.positions.specs.Runs.{runsFrom, runs, changedRuns}
 use Rattle.range_bitset.specs.Layout.{allowed}
 use Rattle.range_bitset.specs.Answers.{allowedCapacity}
-use Rattle.ledger.specs.Machine.{setOf, population, needOf, made, used, rangeVerdict, step}
+use Rattle.ledger.specs.Machine.{setOf, population, needOf, standingCall, used, rangeVerdict, step}
 use Rattle.command_lines.specs.Lines.{fields, isNumber}
 use Rattle.command_lines.specs.Answers.{digitsWithin, digits}
 use Rattle.command_lines.specs.Input.{linesFrom}
@@ -49,5 +49,5 @@ output =
     114 ∷ 101 ∷ 102 ∷ 117 ∷ 115 ∷ 101 ∷ 100 ∷ 32 ∷ 53 ∷ 10 ∷ []
 
 pub example : outputFor input ≡ output
-unfolding linesFrom fields isNumber digitsWithin digits allowedCapacity allowed ones assigned total sumOver countFrom count firstFrom first changedCount runsFrom runs changedRuns setOf population needOf made used rangeVerdict step
+unfolding linesFrom fields isNumber digitsWithin digits allowedCapacity allowed ones assigned total sumOver countFrom count firstFrom first changedCount runsFrom runs changedRuns setOf population needOf standingCall used rangeVerdict step
 example = refl

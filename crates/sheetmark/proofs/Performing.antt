@@ -9,11 +9,12 @@ use native.Mathlib.Omega.{arith}
 use lib.ListN.{length}
 use types.Run.{OneOf}
 use denote.Enum.Declared.{tagOf}
-use Rattle.positions.specs.Positions.{Positions, Found, first, count}
+use Rattle.positions.specs.Positions.{Positions, Place, first, count}
 use Rattle.positions.proofs.Searches.{Searched, hit, miss, first-means}
-use Rattle.range_bitset.specs.Answers.{Reply, Number, ofCounted, ofPlace, ofFound, rangeRefusal}
+use Rattle.positions.specs.Replies.{Reply, number, ofPlace}
+use Rattle.range_bitset.specs.Answers.{ofCounted, ofFound, rangeRefusal}
 use Rattle.range_bitset.specs.Entries.{CountEnsures, NextEnsures}
-use Rattle.range_bitset.specs.declared.Found.{Found as Place}
+use Rattle.range_bitset.specs.declared.Found.{Found}
 use Rattle.range_bitset.specs.declared.Counted.{Counted}
 use Rattle.range_bitset.proofs.Heads.{range-accepted}
 use Rattle.ledger.specs.Machine.{Call}
@@ -77,21 +78,21 @@ bad-before-new command.Bad x t = bad-same x
 -- ---- the queries
 
 pub by-count : (x : Memory) (a e : ℕ) (n : Counted) (r : Answer) → CountEnsures (x .head .set) (x .storage) a e n → r ≡ answerOf (ofCounted n)
-    → Asks (rangeRefusal (x .head .set) (length (x .storage)) e) x (λ s. Number (count s a e)) r true x
+    → Asks (rangeRefusal (x .head .set) (length (x .storage)) e) x (λ s. number (count s a e)) r true x
 by-count x a e n r q t = record { same-live = refl; same = refl; reply = ofCounted n; answers = q; told = t }
 
 -- below an end of at most 2^18 the 32 low bits are the position
-low-same : (s : Positions) (v : Bool) (a e : ℕ) → e ≤ 64 * 4096 → (f : Found) → Searched s v a e f → low32 (ofFound f) ≡ ofFound f
-low-same s v a e n f (hit j m) = ap Number (omega (arith, m .high))
+low-same : (s : Positions) (v : Bool) (a e : ℕ) → e ≤ 64 * 4096 → (f : Place) → Searched s v a e f → low32 (ofPlace f) ≡ ofPlace f
+low-same s v a e n f (hit j m) = ap number (omega (arith, m .high))
 low-same s v a e n f (miss m) = refl
 
-pub by-search : (x : Memory) (a e : ℕ) (v : Bool) (p : Place) (r : Answer) → NextEnsures v (x .head .set) (x .storage) a e p → r ≡ answerOf (low32 (ofPlace p))
-    → Seeks (rangeRefusal (x .head .set) (length (x .storage)) e) x (λ s. ofFound (first s v a e)) r true x
+pub by-search : (x : Memory) (a e : ℕ) (v : Bool) (p : Found) (r : Answer) → NextEnsures v (x .head .set) (x .storage) a e p → r ≡ answerOf (low32 (ofFound p))
+    → Seeks (rangeRefusal (x .head .set) (length (x .storage)) e) x (λ s. ofPlace (first s v a e)) r true x
 by-search x a e v p r q t =
     record {
       same-live = refl;
       same = refl;
-      reply = ofPlace p;
+      reply = ofFound p;
       answers = q;
       told = t;
       whole = λ z s y.

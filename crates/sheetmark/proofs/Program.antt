@@ -10,7 +10,8 @@ use borrow.Author.Tests.{le-leb, leb-true}
 use Rattle.positions.specs.Positions.{Positions, count, first}
 use Rattle.positions.proofs.Bools.{and-left, and-right}
 use Rattle.range_bitset.specs.Layout.{allowed, needed}
-use Rattle.range_bitset.specs.Answers.{Reply, Number, Nothing, Refusal, refused, ofFound, allowedCapacity, rangeRefusal}
+use Rattle.positions.specs.Replies.{Reply, Numbers, Refusal, number, refusal, refused, ofPlace}
+use Rattle.range_bitset.specs.Answers.{allowedCapacity, rangeRefusal}
 use Rattle.ledger.specs.Machine.{Machine, fresh, setOf, Call, Range, Back, Wipe}
 use Rattle.ledger.specs.Memory.{Memory, memory, lentEnough, Holds}
 use Rattle.ledger.specs.declared.Ledger.{Ledger}
@@ -23,8 +24,7 @@ use Rattle.command_lines.specs.declared.Command.the-variants as command
 use Rattle.command_lines.specs.declared.Answer.{Answer}
 use Rattle.command_lines.specs.declared.Answer.the-variants as answer
 use Rattle.command_lines.specs.Lines.{meaning}
-use Rattle.command_lines.specs.Input.{lines, linesFrom, unended}
-use Rattle.command_lines.specs.Input as input
+use Rattle.command_lines.specs.Input.{lines, linesFrom, unended, Buffered}
 use Rattle.command_lines.proofs.Buffers.{holds-none}
 use Rattle.sheetmark.specs.Performing.{answerOf, low32, IsBad, Starts, Calls, Asks, Seeks, Performs}
 use Rattle.sheetmark.specs.Answering.{State, AnswersLine, Serves, none, line, texts, ReadAnswered}
@@ -67,10 +67,9 @@ started-as p capacity j live live′ x y a f e q = go (allowedCapacity capacity 
         (r .0, (r .1, subst (λ (z : Memory). Holds z (fresh capacity j)) (sym (r .2)) (holds-fresh capacity j (x .storage) (x .journal) d l)))
 
 -- the calls and questions of the present ledger
-refusal-is : (r : Reply) → refused r ≡ 4 → r ≡ Refusal 4
-refusal-is (Number n) e = absurd (omega (arith, e))
-refusal-is Nothing e = absurd (omega (arith, e))
-refusal-is (Refusal k) e = ap Refusal e
+refusal-printed : (r : Reply) → refused r ≡ 4 → (answerOf r ≡ answer.Refused 4) × (answerOf (low32 r) ≡ answer.Refused 4)
+refusal-printed (Numbers ns) e = absurd (omega (arith, e))
+refusal-printed (Refusal k vs) e = (ap answer.Refused e, ap answer.Refused e)
 
 module _ (m : Machine) (x y : Memory) (a : Answer) (live′ : Bool) (h : Holds x m) where
   calls-as : (c : Call) → Calls c x a live′ y → Comes (called c m) a live′ y
@@ -84,16 +83,16 @@ module _ (m : Machine) (x y : Memory) (a : Answer) (live′ : Bool) (h : Holds x
     asks-as : Asks (rangeRefusal (x .head .set) (length (x .storage)) e) x f a live′ y → Comes (asked e (f (setOf m)) m) a live′ y
     asks-as k = (go (leb e (m .capacity)) (range-as e), (k .same-live, subst (λ (z : Memory). Holds z m) (sym (k .same)) h))
       where
-        go : (b : Bool) → rangeRefusal (x .head .set) (length (x .storage)) e ≡ cond b 0 4 → a ≡ answerOf (cond b (f (setOf m)) (Refusal 4))
+        go : (b : Bool) → rangeRefusal (x .head .set) (length (x .storage)) e ≡ cond b 0 4 → a ≡ answerOf (cond b (f (setOf m)) (refusal 4))
         go true z = k .told ∙ ap answerOf (k .answers .answers z (setOf m) (h .set))
-        go false z = k .told ∙ ap answerOf (refusal-is (k .reply) (k .answers .refuses ∙ z))
+        go false z = k .told ∙ refusal-printed (k .reply) (k .answers .refuses ∙ z) .0
 
     seeks-as : Seeks (rangeRefusal (x .head .set) (length (x .storage)) e) x f a live′ y → Comes (asked e (f (setOf m)) m) a live′ y
     seeks-as k = (go (leb e (m .capacity)) (range-as e), (k .same-live, subst (λ (z : Memory). Holds z m) (sym (k .same)) h))
       where
-        go : (b : Bool) → rangeRefusal (x .head .set) (length (x .storage)) e ≡ cond b 0 4 → a ≡ answerOf (cond b (f (setOf m)) (Refusal 4))
+        go : (b : Bool) → rangeRefusal (x .head .set) (length (x .storage)) e ≡ cond b 0 4 → a ≡ answerOf (cond b (f (setOf m)) (refusal 4))
         go true z = k .whole z (setOf m) (h .set)
-        go false z = k .told ∙ ap (λ (r : Reply). answerOf (low32 r)) (refusal-is (k .reply) (k .answers .refuses ∙ z))
+        go false z = k .told ∙ refusal-printed (k .reply) (k .answers .refuses ∙ z) .1
 
 module _ (live live′ : Bool) (x y : Memory) (a : Answer) where
   before : IsBad false x a live′ y → Comes (record { answer = answer.BadLine; next = NoLedger }) a live′ y
@@ -111,13 +110,13 @@ module _ (live live′ : Bool) (x y : Memory) (a : Answer) where
   performs-follows (command.Clear s t) (With m) f e q = calls-as m x y a live′ (f .1) (Range s t false) (known (command.Clear s t) true (f .0) q)
   performs-follows (command.Count s t) NoLedger f e q = before (known (command.Count s t) false f q)
   performs-follows (command.Count s t) (With m) f e q =
-      asks-as m x y a live′ (f .1) t (λ (o : Positions). Number (count o s t)) (known (command.Count s t) true (f .0) q)
+      asks-as m x y a live′ (f .1) t (λ (o : Positions). number (count o s t)) (known (command.Count s t) true (f .0) q)
   performs-follows (command.One s t) NoLedger f e q = before (known (command.One s t) false f q)
   performs-follows (command.One s t) (With m) f e q =
-      seeks-as m x y a live′ (f .1) t (λ (o : Positions). ofFound (first o true s t)) (known (command.One s t) true (f .0) q)
+      seeks-as m x y a live′ (f .1) t (λ (o : Positions). ofPlace (first o true s t)) (known (command.One s t) true (f .0) q)
   performs-follows (command.Zero s t) NoLedger f e q = before (known (command.Zero s t) false f q)
   performs-follows (command.Zero s t) (With m) f e q =
-      seeks-as m x y a live′ (f .1) t (λ (o : Positions). ofFound (first o false s t)) (known (command.Zero s t) true (f .0) q)
+      seeks-as m x y a live′ (f .1) t (λ (o : Positions). ofPlace (first o false s t)) (known (command.Zero s t) true (f .0) q)
   performs-follows command.Back NoLedger f e q = before (known command.Back false f q)
   performs-follows command.Back (With m) f e q = calls-as m x y a live′ (f .1) Back (known command.Back true (f .0) q)
   performs-follows command.Wipe NoLedger f e q = before (known command.Wipe false f q)
@@ -219,14 +218,14 @@ pub record ReadSoFar (s t : State) (n kept : ℕ) (buffer : List ℕ) : Type 0 w
   pub rest : List ℕ
   pub reading : Reading s parts outs t rest
   pub long : n ≤ length (joined parts)
-  pub holds : input.Holds buffer kept rest
+  pub holds : Buffered buffer kept rest
 
 pub read-none : (s : State) (kept : ℕ) (buffer : List ℕ) → kept ≡ 0 → ReadSoFar s s 0 kept buffer
 read-none s kept buffer z =
     record { parts = []; outs = []; rest = []; reading = program.none; long = omega arith; holds = rw z (holds-none buffer) }
 
 module _ (s t u : State) (n kept : ℕ) (buffer text out : List ℕ) (kept′ : ℕ) (buffer′ : List ℕ) (f : ReadSoFar s t n kept buffer)
-    (a : (l : List ℕ) → input.Holds buffer kept l → ReadAnswered text l t u out kept′ buffer′) where
+    (a : (l : List ℕ) → Buffered buffer kept l → ReadAnswered text l t u out kept′ buffer′) where
   pub read-more : 0 < length text → ReadSoFar s u (n + 1) kept′ buffer′
   read-more some =
       let p = a (f .rest) (f .holds) .some some in

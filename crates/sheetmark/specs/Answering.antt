@@ -10,7 +10,7 @@ use Rattle.ledger.specs.Memory.{Memory, memory}
 use Rattle.command_lines.specs.declared.Answer.{Answer}
 use Rattle.command_lines.specs.Lines.{meaning}
 use Rattle.command_lines.specs.Answers.{printed}
-use Rattle.command_lines.specs.Input.{unended, linesFrom, Holds}
+use Rattle.command_lines.specs.Input.{unended, linesFrom, Buffered}
 use Rattle.sheetmark.specs.declared.Session.{Session}
 use Rattle.sheetmark.specs.Performing.{Performs}
 
@@ -67,7 +67,7 @@ pub record End (l : List ℕ) (s t : State) (out : List ℕ) : Type 0 where
 pub record PartAnswered (text l : List ℕ) (s t : State) (out : List ℕ) (kept : ℕ) (buffer : List ℕ) : Type 0 where
   pub rest : List ℕ
   pub part : Part text l s t out rest
-  pub holds : Holds buffer kept rest
+  pub holds : Buffered buffer kept rest
 
 -- what a read gave: a part of the input or, where it gave nothing, the input's end
 pub record ReadAnswered (text l : List ℕ) (s t : State) (out : List ℕ) (kept : ℕ) (buffer : List ℕ) : Type 0 where

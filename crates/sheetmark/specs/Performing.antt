@@ -2,12 +2,13 @@
 -- printed. Assumes nothing.
 use mathlib.Core.Path.{_≡_}
 use mathlib.Core.Bool.{Bool, true, false}
-use mathlib.Core.List.{List}
+use mathlib.Core.List.{List, [], _∷_, map}
 use Prim.Native.Nat.{ℕ, _%_, _^_}
 use lib.ListN.{length}
 use Rattle.positions.specs.Positions.{Positions, count, first}
 use Rattle.range_bitset.specs.Represents.{Represents}
-use Rattle.range_bitset.specs.Answers.{Reply, Number, Nothing, Refusal, ofFound, rangeRefusal}
+use Rattle.positions.specs.Replies.{Reply, Numbers, Refusal, number, ofPlace}
+use Rattle.range_bitset.specs.Answers.{rangeRefusal}
 use Rattle.range_bitset.specs.Entries.{Answers}
 use Rattle.ledger.specs.Machine.{Call, Range, Back, Wipe}
 use Rattle.ledger.specs.Memory.{Memory, memory}
@@ -20,17 +21,16 @@ use Rattle.command_lines.specs.declared.Answer.{Answer}
 use Rattle.command_lines.specs.declared.Answer.the-variants as answer
 use Rattle.sheetmark.specs.declared.Performed.{Performed}
 
--- what is printed for a reply: never `bad line`
+-- what is printed for a reply: its first number, or `none`; never `bad line`
 abbrev pub answerOf : Reply → Answer
-answerOf (Number n) = answer.Number n
-answerOf Nothing = answer.Nothing
-answerOf (Refusal k) = answer.Refused k
+answerOf (Numbers []) = answer.Nothing
+answerOf (Numbers (n ∷ ns)) = answer.Number n
+answerOf (Refusal k vs) = answer.Refused k
 
--- a number in 32 bits
+-- the numbers in 32 bits
 abbrev pub low32 : Reply → Reply
-low32 (Number n) = Number (n % 2 ^ 32)
-low32 Nothing = Nothing
-low32 (Refusal k) = Refusal k
+low32 (Numbers ns) = Numbers (map (λ n. n % 2 ^ 32) ns)
+low32 (Refusal k vs) = Refusal k vs
 
 -- `bad line` is printed, and nothing is changed
 pub record IsBad (live : Bool) (x : Memory) (a : Answer) (live′ : Bool) (y : Memory) : Type 0 where
@@ -74,11 +74,11 @@ Performs (command.New capacity j) live x a live′ y = Starts (newOf capacity j 
 Performs (command.Mark s e) true x a live′ y = Calls (Range s e true) x a live′ y
 Performs (command.Clear s e) true x a live′ y = Calls (Range s e false) x a live′ y
 Performs (command.Count s e) true x a live′ y =
-    Asks (rangeRefusal (x .head .set) (length (x .storage)) e) x (λ p. Number (count p s e)) a live′ y
+    Asks (rangeRefusal (x .head .set) (length (x .storage)) e) x (λ p. number (count p s e)) a live′ y
 Performs (command.One s e) true x a live′ y =
-    Seeks (rangeRefusal (x .head .set) (length (x .storage)) e) x (λ p. ofFound (first p true s e)) a live′ y
+    Seeks (rangeRefusal (x .head .set) (length (x .storage)) e) x (λ p. ofPlace (first p true s e)) a live′ y
 Performs (command.Zero s e) true x a live′ y =
-    Seeks (rangeRefusal (x .head .set) (length (x .storage)) e) x (λ p. ofFound (first p false s e)) a live′ y
+    Seeks (rangeRefusal (x .head .set) (length (x .storage)) e) x (λ p. ofPlace (first p false s e)) a live′ y
 Performs command.Back true x a live′ y = Calls Back x a live′ y
 Performs command.Wipe true x a live′ y = Calls Wipe x a live′ y
 Performs command.Bad true x a live′ y = IsBad true x a live′ y

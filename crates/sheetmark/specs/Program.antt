@@ -7,7 +7,8 @@ use Prim.Native.Nat.{ℕ, _-_, _^_, _≤_, _<_}
 use lib.Dec.{leb}
 use lib.ListN.{length}
 use Rattle.positions.specs.Positions.{count, first}
-use Rattle.range_bitset.specs.Answers.{Reply, Number, Refusal, ofFound, allowedCapacity}
+use Rattle.positions.specs.Replies.{Reply, number, refusal, ofPlace}
+use Rattle.range_bitset.specs.Answers.{allowedCapacity}
 use Rattle.ledger.specs.Machine.{Machine, fresh, setOf, Call, Range, Back, Wipe, step}
 use Rattle.ledger.specs.Memory.{Memory, memory, Holds}
 use Rattle.ledger.specs.declared.Ledger.{Ledger}
@@ -43,7 +44,7 @@ abbrev pub called : Call → Machine → Response
 called c m = record { answer = answerOf (step m c .answer); next = With (step m c .next) }
 
 abbrev pub asked : ℕ → Reply → Machine → Response
-asked e r m = record { answer = answerOf (cond (leb e (m .capacity)) r (Refusal 4)); next = With m }
+asked e r m = record { answer = answerOf (cond (leb e (m .capacity)) r (refusal 4)); next = With m }
 
 -- a command before an accepted `new` is a bad line
 abbrev pub ofPresent : Present → (Machine → Response) → Response
@@ -54,9 +55,9 @@ abbrev pub respond : Command → Present → Response
 respond (command.New capacity j) p = started p capacity j
 respond (command.Mark s e) p = ofPresent p (called (Range s e true))
 respond (command.Clear s e) p = ofPresent p (called (Range s e false))
-respond (command.Count s e) p = ofPresent p (λ m. asked e (Number (count (setOf m) s e)) m)
-respond (command.One s e) p = ofPresent p (λ m. asked e (ofFound (first (setOf m) true s e)) m)
-respond (command.Zero s e) p = ofPresent p (λ m. asked e (ofFound (first (setOf m) false s e)) m)
+respond (command.Count s e) p = ofPresent p (λ m. asked e (number (count (setOf m) s e)) m)
+respond (command.One s e) p = ofPresent p (λ m. asked e (ofPlace (first (setOf m) true s e)) m)
+respond (command.Zero s e) p = ofPresent p (λ m. asked e (ofPlace (first (setOf m) false s e)) m)
 respond command.Back p = ofPresent p (called Back)
 respond command.Wipe p = ofPresent p (called Wipe)
 respond command.Bad p = record { answer = answer.BadLine; next = p }

@@ -6,14 +6,14 @@ ghost use mathlib.Core.Bool.{true, false};
 ghost use mathlib.Core.List.{List};
 ghost use Prim.Native.Nat.{ℕ, _+_, _*_, _≤_, _<_};
 ghost use lib.ListN.{length, take, replicate};
-ghost use Rattle.range_bitset.specs.Answers.{ofCounted, ofPlace};
+ghost use Rattle.range_bitset.specs.Answers.{ofCounted, ofFound};
 ghost use Rattle.ledger.specs.Memory.{memory};
 ghost use Rattle.sheetmark.specs.Performing.{Leaves, answerOf, low32};
 ghost use Rattle.sheetmark.specs.Answering.{stateOf, PartAnswered, End, ReadAnswered};
 ghost use Rattle.sheetmark.specs.Program.{Served};
 ghost use Rattle.sheetmark.specs.Inner.{LineAnswered};
 ghost use Rattle.command_lines.specs.declared.Command.the-variants.{New};
-ghost use Rattle.command_lines.specs.Input.{Holds};
+ghost use Rattle.command_lines.specs.Input.{Buffered};
 use command_lines::Answer;
 use command_lines::Command;
 use ledger::Called;
@@ -42,7 +42,7 @@ fn of_counted(counted: Counted) -> Answer
 
 // A place, as it is printed. A position is below the capacity, so that 32 bits hold it; any other number is cut to them.
 fn of_found(found: Found) -> Answer
-    ensures { λ r. ⌜ r ≡ answerOf (low32 (ofPlace found)) ⌝ }
+    ensures { λ r. ⌜ r ≡ answerOf (low32 (ofFound found)) ⌝ }
 {
     match found {
         Found::At(i) => Answer::Number((i % 0x1_0000_0000) as u32),
@@ -210,7 +210,7 @@ fn answer_part(
     requires { ⌜ session .kept ≤ length (now line) ⌝ }
     requires { ⌜ 27 < length (now line) ⌝ }
     requires { ⌜ 12 * length (now text) ≤ length (now out) ⌝ }
-    ensures { λ r. ⌜ ((l : List ℕ) → Holds (now (line .entry)) (session .kept) l → PartAnswered (now (text .entry)) l (stateOf session (storage .entry) (journal .entry)) (stateOf r (storage .exit) (journal .exit)) (take (r .filled) (now (out .exit))) (r .kept) (now (line .exit))) ⌝ }
+    ensures { λ r. ⌜ ((l : List ℕ) → Buffered (now (line .entry)) (session .kept) l → PartAnswered (now (text .entry)) l (stateOf session (storage .entry) (journal .entry)) (stateOf r (storage .exit) (journal .exit)) (take (r .filled) (now (out .exit))) (r .kept) (now (line .exit))) ⌝ }
     ensures { λ r. ⌜ r .kept ≤ length (now (line .exit)) ⌝ }
     ensures { λ r. ⌜ r .filled ≤ length (now (out .exit)) ⌝ }
 {
@@ -240,7 +240,7 @@ fn answer_last_line(
     requires { ⌜ session .kept ≤ length (now line) ⌝ }
     requires { ⌜ 27 < length (now line) ⌝ }
     requires { ⌜ 12 ≤ length (now out) ⌝ }
-    ensures { λ r. ⌜ ((l : List ℕ) → Holds (now (line .entry)) (session .kept) l → End l (stateOf session (storage .entry) (journal .entry)) (stateOf r (storage .exit) (journal .exit)) (take (r .filled) (now (out .exit)))) ⌝ }
+    ensures { λ r. ⌜ ((l : List ℕ) → Buffered (now (line .entry)) (session .kept) l → End l (stateOf session (storage .entry) (journal .entry)) (stateOf r (storage .exit) (journal .exit)) (take (r .filled) (now (out .exit)))) ⌝ }
     ensures { λ r. ⌜ r .kept ≤ length (now (line .exit)) ⌝ }
     ensures { λ r. ⌜ r .filled ≤ length (now (out .exit)) ⌝ }
 {
@@ -265,7 +265,7 @@ fn answer_read(
     requires { ⌜ 27 < length (now line) ⌝ }
     requires { ⌜ 12 ≤ length (now out) ⌝ }
     requires { ⌜ 12 * length (now text) ≤ length (now out) ⌝ }
-    ensures { λ r. ⌜ ((l : List ℕ) → Holds (now (line .entry)) (session .kept) l → ReadAnswered (now (text .entry)) l (stateOf session (storage .entry) (journal .entry)) (stateOf r (storage .exit) (journal .exit)) (take (r .filled) (now (out .exit))) (r .kept) (now (line .exit))) ⌝ }
+    ensures { λ r. ⌜ ((l : List ℕ) → Buffered (now (line .entry)) (session .kept) l → ReadAnswered (now (text .entry)) l (stateOf session (storage .entry) (journal .entry)) (stateOf r (storage .exit) (journal .exit)) (take (r .filled) (now (out .exit))) (r .kept) (now (line .exit))) ⌝ }
     ensures { λ r. ⌜ r .kept ≤ length (now (line .exit)) ⌝ }
     ensures { λ r. ⌜ r .filled ≤ length (now (out .exit)) ⌝ }
 {

@@ -2,7 +2,7 @@
 use mathlib.Core.Bool.{true}
 use Rattle.capi.specs.declared.KladoFound.{KladoFound}
 use Rattle.range_bitset.specs.declared.Found.{Found}
-use Rattle.capi.specs.Told.{ofFound}
+use Rattle.capi.specs.Told.{toldFound}
 use Rattle.range_bitset.specs.Entries.{NextEnsures}
 use Rattle.capi.proofs.Telling.{telling}
 use borrow.Author.Needs.{needs}
@@ -12,7 +12,7 @@ use Rattle.capi.proofs.klado_set_next_one.Tie as tie
 returns : tie.Need-returns
 returns c =
     let a = c .before .before .before .before .args in
-    telling Found KladoFound (λ g. NextEnsures true g (a .storage .now) (a .start) (a .end)) ofFound _ _ (c .before .before .set-of .ensures) (c .before .next-one .result) (c .before .next-one .ensures) _ (c .of-found .ensures)
+    telling Found KladoFound (λ g. NextEnsures true g (a .storage .now) (a .start) (a .end)) toldFound _ _ (c .before .before .set-of .ensures) (c .before .next-one .result) (c .before .next-one .ensures) _ (c .of-found .ensures)
 
 pub klado-set-next-one-spec : {M : Type 1} → statement M
 klado-set-next-one-spec =

@@ -1,15 +1,15 @@
--- `capi::of_counted` meets its contract: one line of ofCounted for each case. Assumes nothing.
-use Rattle.capi.specs.Told.{ofCounted}
+-- `capi::of_counted` meets its contract: one line of toldCounted for each case. Assumes nothing.
+use Rattle.capi.specs.Told.{toldCounted}
 use mathlib.Core.Path.{ap, sym}
 use borrow.Author.Needs.{needs}
 use Rattle.capi.proofs.of_counted.Statement.{statement}
 use Rattle.capi.proofs.of_counted.Tie as tie
 
 returns : tie.Need-returns
-returns c = sym (ap ofCounted (c .before .answer .given .1))
+returns c = sym (ap toldCounted (c .before .answer .given .1))
 
 returns-2 : tie.Need-returns-2
-returns-2 c = sym (ap ofCounted (c .before .answer2 .given .1))
+returns-2 c = sym (ap toldCounted (c .before .answer2 .given .1))
 
 pub of-counted-spec : {M : Type 1} → statement M
 of-counted-spec =

@@ -1,18 +1,18 @@
--- `capi::of_found` meets its contract: one line of ofFound for each case. Assumes nothing.
-use Rattle.capi.specs.Told.{ofFound}
+-- `capi::of_found` meets its contract: one line of toldFound for each case. Assumes nothing.
+use Rattle.capi.specs.Told.{toldFound}
 use mathlib.Core.Path.{ap, sym}
 use borrow.Author.Needs.{needs}
 use Rattle.capi.proofs.of_found.Statement.{statement}
 use Rattle.capi.proofs.of_found.Tie as tie
 
 returns : tie.Need-returns
-returns c = sym (ap ofFound (c .before .answer .given .1))
+returns c = sym (ap toldFound (c .before .answer .given .1))
 
 returns-2 : tie.Need-returns-2
-returns-2 c = sym (ap ofFound (c .enum-told .given .1))
+returns-2 c = sym (ap toldFound (c .enum-told .given .1))
 
 returns-3 : tie.Need-returns-3
-returns-3 c = sym (ap ofFound (c .before .answer2 .given .1))
+returns-3 c = sym (ap toldFound (c .before .answer2 .given .1))
 
 pub of-found-spec : {M : Type 1} → statement M
 of-found-spec =

@@ -1,5 +1,5 @@
--- `capi::of_tested` meets its contract: one line of ofTested for each case. Assumes nothing.
-use Rattle.capi.specs.Told.{ofTested}
+-- `capi::of_tested` meets its contract: one line of toldTested for each case. Assumes nothing.
+use Rattle.capi.specs.Told.{toldTested}
 use mathlib.Core.Path.{ap, sym, _∙_}
 use Rattle.range_bitset.specs.declared.Tested.the-variants as tested
 use borrow.Author.Needs.{needs}
@@ -7,13 +7,13 @@ use Rattle.capi.proofs.of_tested.Statement.{statement}
 use Rattle.capi.proofs.of_tested.Tie as tie
 
 returns : tie.Need-returns
-returns c = sym (ap ofTested (c .before .before .answer .given .1 ∙ ap tested.Is (c .if1 .taken)))
+returns c = sym (ap toldTested (c .before .before .answer .given .1 ∙ ap tested.Is (c .if1 .taken)))
 
 returns-2 : tie.Need-returns-2
-returns-2 c = sym (ap ofTested (c .before .before .answer .given .1 ∙ ap tested.Is (c .if1 .left)))
+returns-2 c = sym (ap toldTested (c .before .before .answer .given .1 ∙ ap tested.Is (c .if1 .left)))
 
 returns-3 : tie.Need-returns-3
-returns-3 c = sym (ap ofTested (c .before .answer2 .given .1))
+returns-3 c = sym (ap toldTested (c .before .answer2 .given .1))
 
 pub of-tested-spec : {M : Type 1} → statement M
 of-tested-spec =

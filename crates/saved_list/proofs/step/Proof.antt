@@ -8,7 +8,7 @@ use Rattle.saved_list.proofs.OneCallee.{one-callee, asks, tells, owns-u
 use contract.Lifetimes.{AllOutlive}
 use denote.Struct.Laws as LL
 use denote.Enum.Laws as EL
-use Rattle.saved_list.specs.Answers.{foundAnswer, foundOf, indexAfter}
+use Rattle.saved_list.specs.Answers.{ofFoundRun, runReply, indexAfter}
 use Rattle.saved_list.specs.declared.Runs.{Runs}
 use Rattle.saved_list.specs.declared.Stepped.{Stepped}
 use Rattle.saved_list.proofs.Runs as T
@@ -57,7 +57,7 @@ module _ {M : Type 1} (𝓤 : URA M) (H : Heap 𝓤) (A : Atoms 𝓤) (W : Given
 
   -- what the callee says of its answer
   abbrev Said : Stepped → Lasts → Type 0
-  Said r zs = (foundAnswer (r .run) ≡ foundOf (now (h .file)) (h .at)) × (r .at ≡ indexAfter (now (h .file)) (h .at))
+  Said r zs = (ofFoundRun (r .run) ≡ runReply (now (h .file)) (h .at)) × (r .at ≡ indexAfter (now (h .file)) (h .at))
 
   -- what the callee is passed
   abbrev passed : Vals step.signature (κ′, tt)

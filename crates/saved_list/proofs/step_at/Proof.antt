@@ -2,7 +2,7 @@
 use mathlib.Core.Path.{ap, sym, _∙_}
 use native.Mathlib.Omega.{arith}
 use borrow.Author.Needs.{needs}
-use Rattle.saved_list.specs.Answers.{foundAnswer}
+use Rattle.saved_list.specs.Answers.{ofFoundRun}
 use Rattle.saved_list.proofs.Steps.{run-below, at-moves, end-stays}
 use Rattle.saved_list.proofs.step_at.Statement.{statement}
 use Rattle.saved_list.proofs.step_at.Tie as tie
@@ -11,19 +11,19 @@ add-t8 : tie.Need-add-t8
 add-t8 c =
     let a = c .before .before .before .before .before .args in
     record {
-      fits = omega (arith, run-below (a .file .now) (a .at) _ _ (ap foundAnswer (sym (c .before .start .given .1)) ∙ c .before .before .before .run-at .ensures));
+      fits = omega (arith, run-below (a .file .now) (a .at) _ _ (ap ofFoundRun (sym (c .before .start .given .1)) ∙ c .before .before .before .run-at .ensures));
     }
 
 returns : tie.Need-returns
 returns c =
     let a = c .before .before .before .before .before .args in
-    let e = ap foundAnswer (sym (c .before .start .given .1)) ∙ c .before .before .before .run-at .ensures in
+    let e = ap ofFoundRun (sym (c .before .start .given .1)) ∙ c .before .before .before .run-at .ensures in
     (e, at-moves (a .file .now) (a .at) _ _ e)
 
 returns-2 : tie.Need-returns-2
 returns-2 c =
     let a = c .before .before .before .before .args in
-    let e = ap foundAnswer (sym (c .enum-told .given .1)) ∙ c .before .before .run-at .ensures in
+    let e = ap ofFoundRun (sym (c .enum-told .given .1)) ∙ c .before .before .run-at .ensures in
     (e, end-stays (a .file .now) (a .at) e)
 
 pub step-at-spec : {M : Type 1} → statement M

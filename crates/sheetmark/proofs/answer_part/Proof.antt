@@ -7,7 +7,7 @@ use native.Mathlib.Omega.{arith}
 use borrow.Author.Needs.{needs}
 use lib.ListN.{length}
 use lib.Seq.{length-take-le}
-use Rattle.command_lines.specs.Input.{Holds}
+use Rattle.command_lines.specs.Input.{Buffered}
 use Rattle.command_lines.proofs.Buffers.{gathers-moves, gathers-fits}
 use Rattle.sheetmark.specs.Answering.{state}
 use Rattle.sheetmark.proofs.Answering.{SoFar, so-far-none, so-far-line, so-far-open, so-far-all}
@@ -20,7 +20,7 @@ Inv-loop text line₀ out₀ storage₀ journal₀ at₀ current₀ line out sto
     × (current .kept ≤ length line)
     × (current .filled ≤ 12 * at)
     × (at ≤ length text)
-    × ((l : List ℕ) → Holds line₀ (current₀ .kept) l → SoFar text l at (state current₀ storage₀ journal₀) (state current storage journal) out (current .filled) (current .kept) line)
+    × ((l : List ℕ) → Buffered line₀ (current₀ .kept) l → SoFar text l at (state current₀ storage₀ journal₀) (state current storage journal) out (current .filled) (current .kept) line)
 
 abbrev μ-loop : tie.MeasureT-loop
 μ-loop text line₀ out₀ storage₀ journal₀ at₀ current₀ line out storage journal at current = length text - at

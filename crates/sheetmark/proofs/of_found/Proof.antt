@@ -1,6 +1,6 @@
 -- `of_found` meets its contract. Assumes nothing.
-use Rattle.range_bitset.specs.Answers.{ofPlace}
-use Rattle.range_bitset.specs.declared.Found.{Found as Place}
+use Rattle.range_bitset.specs.Answers.{ofFound}
+use Rattle.range_bitset.specs.declared.Found.{Found}
 use Rattle.sheetmark.specs.Performing.{answerOf, low32}
 use mathlib.Core.Path.{sym, ap}
 use borrow.Author.Needs.{needs}
@@ -8,10 +8,10 @@ use Rattle.sheetmark.proofs.of_found.Statement.{statement}
 use Rattle.sheetmark.proofs.of_found.Tie as tie
 
 returns : tie.Need-returns
-returns c = sym (ap (λ (p : Place). answerOf (low32 (ofPlace p))) (c .before .found .given .1))
+returns c = sym (ap (λ (p : Found). answerOf (low32 (ofFound p))) (c .before .found .given .1))
 
 returns-3 : tie.Need-returns-3
-returns-3 c = sym (ap (λ (p : Place). answerOf (low32 (ofPlace p))) (c .before .found2 .given .1))
+returns-3 c = sym (ap (λ (p : Found). answerOf (low32 (ofFound p))) (c .before .found2 .given .1))
 
 pub of-found-spec : {M : Type 1} → statement M
 of-found-spec =

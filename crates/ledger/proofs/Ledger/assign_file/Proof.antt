@@ -7,7 +7,7 @@ use Prim.Native.Nat.{_-_, _≤_}
 use lib.ListN.{length}
 use mathlib.Core.Bool.{true}
 use Rattle.ledger.specs.Inner.{fileRuns, Reassigns}
-use Rattle.saved_list.specs.Answers.{foundAnswer}
+use Rattle.saved_list.specs.Answers.{ofFoundRun}
 use Rattle.saved_list.proofs.Opening.{found-is, found-none}
 use Rattle.ledger.proofs.Reassigning.{file-none, opens-turn, opens-all, opens-short}
 use Rattle.ledger.proofs.Ledger.assign_file.Statement.{statement}
@@ -40,7 +40,7 @@ same-length c = c .before .before .before .before .loop .inv .1
 
 returns : tie.Need-returns Inv-loop μ-loop
 returns c =
-    opens-short _ _ _ _ _ _ _ (c .before .before .before .before .loop .inv .2) (found-none _ _ (sym (ap foundAnswer (c .enum-told .given .1)) ∙ c .before .before .run-at .ensures)) (c .before .before .before .loop-test .taken)
+    opens-short _ _ _ _ _ _ _ (c .before .before .before .before .loop .inv .2) (found-none _ _ (sym (ap ofFoundRun (c .enum-told .given .1)) ∙ c .before .before .run-at .ensures)) (c .before .before .before .loop-test .taken)
 
 cast-assign : tie.Need-cast-assign Inv-loop μ-loop
 cast-assign c = search needs
@@ -60,7 +60,7 @@ loop-less c = omega arith
 loop-again : tie.Need-loop-again Inv-loop μ-loop
 loop-again c =
     let l = c .before .before .before .before .before .before .before .before .before .before .loop in
-    let k = found-is _ _ _ _ (sym (ap foundAnswer (c .before .before .before .before .before .before .start .given .1)) ∙ c .before .before .before .before .before .before .before .before .run-at .ensures) in
+    let k = found-is _ _ _ _ (sym (ap ofFoundRun (c .before .before .before .before .before .before .start .given .1)) ∙ c .before .before .before .before .before .before .before .before .run-at .ensures) in
     (omega arith, c .before .before .before .assign .kept .1 .0 ∙ l .inv .1, opens-turn _ _ _ 0 _ _ _ (l .inv .2) (l .inv .1) _ _ (k .1) (c .before .before .before .assign .result) _ (c .before .before .before .assign .ensures))
 
 same-length-2 : tie.Need-same-length-2 Inv-loop μ-loop

@@ -1,7 +1,8 @@
 -- `range_bitset::RangeBitset::capacity` meets its contract. Assumes nothing.
 use Rattle.range_bitset.proofs.Heads.{good-bounds}
 use Rattle.range_bitset.specs.Entries.{ofHead}
-use Rattle.range_bitset.specs.Answers.{goodHead, Number}
+use Rattle.positions.specs.Replies.{number}
+use Rattle.range_bitset.specs.Answers.{goodHead}
 use borrow.Author.Tests.{not-true, not-false}
 use native.Mathlib.Nat.{mul-comm}
 use native.Mathlib.Omega.{arith}
@@ -26,7 +27,7 @@ returns-2 : tie.Need-returns-2
 unfolding ofHead
 returns-2 c =
     let e : goodHead (c .before .before .before .args .self) ≡ true = sym (c .before .before .good-head .ensures) ∙ not-false _ (c .before .if1 .left) in
-    rw e (ap Number (mul-comm _ 64))
+    rw e (ap number (mul-comm _ 64))
 
 pub capacity-spec : {M : Type 1} → statement M
 capacity-spec = tie.close (tie.spec (λ c κs. search needs) returns mul-t4 returns-2)

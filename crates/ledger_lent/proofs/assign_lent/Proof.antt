@@ -1,4 +1,4 @@
--- `ledger_lent::mark_lent` meets its contract: a walk of its MIR, by hand, as of `wipe_lent`, with both slices, the ends and the value.
+-- `ledger_lent::assign_lent` meets its contract: a walk of its MIR, by hand, as of `wipe_lent`, with both slices, the ends and the value.
 -- All that the proof knows of the core is that it meets its contract.
 -- Assumes nothing.
 use Rattle.saved_list.proofs.OneCallee.{_≡_, refl, ℕ, _<_, _^_, List, [], _∷_, Bool, length, URA, named, w64, Val, vint, vbool, vptr, SProp, ent, id⊢, GName, Lft, Share, ftrue, flft, Memory, Routine, Heap, Calls, Loops, WpFn, Atoms, Fun}
@@ -16,10 +16,10 @@ use Rattle.ledger_lent.proofs.assign.Symbol as core-def
 use Rattle.ledger_lent.proofs.assign.Symbol.{name as #core}
 use Rattle.ledger_lent.proofs.assign.Met as core-thm
 use Rattle.ledger_lent.proofs.Heads.{headRow, outRow, headVals, answerVal, sliceAt, IsAnswer, answer-of, head-of, OutCell, lent, head-typed, answer-typed, owns-head, owns-answer, given-out, opens-head, closes-head}
-use Rattle.ledger_lent.proofs.mark_lent.Key.{name as #this}
-use Rattle.ledger_lent.proofs.mark_lent as f
-use Rattle.ledger_lent.proofs.mark_lent.Statement as stated
-use Rattle.ledger_lent.proofs.mark_lent.Code as code
+use Rattle.ledger_lent.proofs.assign_lent.Key.{name as #this}
+use Rattle.ledger_lent.proofs.assign_lent as f
+use Rattle.ledger_lent.proofs.assign_lent.Statement as stated
+use Rattle.ledger_lent.proofs.assign_lent.Code as code
 
 abbrev stayed : Stays (f.ended .signature .params) (f.ended .kept)
 stayed = (stay-ref (0 ∷ []) tt (plain (λ _. headRow)), (gave-slice (1 ∷ []) tt (plain (λ _. u64)), (gave-slice (2 ∷ []) tt (plain (λ _. u32)), (stay-none (λ _. usize) yes, (stay-none (λ _. usize) yes, (stay-none (λ _. bool) yes, tt))))))
@@ -86,9 +86,9 @@ module _ {M : Type 1} (𝓤 : URA M) (H : Heap 𝓤) (A : Atoms 𝓤) (W : Given
         move ! (29 ∷ 30 ∷ []) $ free1 ! $ move ! (27 ∷ 28 ∷ []) $ free1 ! $ move ! (25 ∷ 26 ∷ []) $ free1 ! $ move ! (23 ∷ 24 ∷ []) $ free1 ! $ move ! (21 ∷ 22 ∷ []) $ free1 ! $ move ! (19 ∷ 20 ∷ []) $ free1 ! $ move ! (17 ∷ 18 ∷ []) $ free1 ! $ move ! (15 ∷ 16 ∷ []) $ free1 ! $ move ! (13 ∷ 14 ∷ []) $ free1 ! $ move ! (11 ∷ 12 ∷ []) $ free1 ! $ move ! (9 ∷ 10 ∷ []) $ free1 ! $ move ! (7 ∷ 8 ∷ []) $ free1 ! $ move ! (5 ∷ 6 ∷ []) $ free1 ! $ free0 ! $
         keep ! (0 ∷ 1 ∷ 2 ∷ 3 ∷ 4 ∷ []) $ by ! (exits r zs k₁ k₂ (answer-of r is) e))))))))))))))))))))
 
-pub mark-lent-spec : {M : Type 1} → stated.statement M
+pub assign-lent-spec : {M : Type 1} → stated.statement M
 unfolding code.routine
-mark-lent-spec 𝓤 H 𝓜 𝓖 𝓡 =
+assign-lent-spec 𝓤 H 𝓜 𝓖 𝓡 =
     let W : Given 𝓤 H (𝓖 .A) = givenOf 𝓤 H 𝓜 𝓖 in
     one-callee 𝓤 H 𝓜 𝓖 𝓡 f.ended stayed (f.clauses 𝓤 H (𝓖 .A) (𝓜 .mem) (𝓡 .run)) code.function code.env #this (code.unfolded 𝓤 H 𝓜 𝓡)
     #core (Core 𝓤 H (𝓖 .A) (𝓜 .mem) (𝓡 .run)) core-def.routine code.calls-ledger-lent·assign (core-thm.met 𝓤 H 𝓜 𝓖 𝓡)

@@ -1,5 +1,5 @@
--- `ledger_lent::mark_through` meets its contract: a walk of its MIR, by hand. The head is laid in a local, which is lent to `mark_lent` for a lifetime that is made for the call; the lifetime is ended, and the local is back at the head that the call left.
--- All that the proof knows of `mark_lent` is that it meets its contract.
+-- `ledger_lent::assign_through` meets its contract: a walk of its MIR, by hand. The head is laid in a local, which is lent to `assign_lent` for a lifetime that is made for the call; the lifetime is ended, and the local is back at the head that the call left.
+-- All that the proof knows of `assign_lent` is that it meets its contract.
 -- Assumes nothing.
 use Rattle.saved_list.proofs.OneCallee.{_≡_, refl, ℕ, _<_, _^_, List, [], _∷_, Bool, length, URA, fullShare, named, w64, Val, vint, vbool, vptr, SProp, ent, id⊢, GName, Lft, Share, ftrue, flft, Memory, Routine, Heap, Calls, Loops, WpFn, Atoms, Fun}
 use Rattle.saved_list.proofs.OneCallee.{Given, Item, ‵, raw, _⊛_, ⋆, _$_, _∵_, !, qed, by, move, keep, drop, use2, rewrite, fsplit, fjoin, suffices, frame, done, look, init, forget, stop, hop, fld, from, load, addr, of-opd, and-then, no-more, land, assigns, returns, enter, alloc1, alloc0, params1, pass1, pass0, free1, free0, agg, whole, sub, look-in}
@@ -11,15 +11,15 @@ use Rattle.ledger.specs.Memory.{memory}
 use Rattle.ledger.specs.Entries.{CallEnsures as Promise}
 use Rattle.ledger.specs.declared.Ledger.{Ledger}
 use Rattle.range_bitset.specs.declared.Counted.{Counted}
-use Rattle.ledger_lent.proofs.mark_lent as core
-use Rattle.ledger_lent.proofs.mark_lent.Symbol as core-def
-use Rattle.ledger_lent.proofs.mark_lent.Symbol.{name as #core}
-use Rattle.ledger_lent.proofs.mark_lent.Met as core-thm
+use Rattle.ledger_lent.proofs.assign_lent as core
+use Rattle.ledger_lent.proofs.assign_lent.Symbol as core-def
+use Rattle.ledger_lent.proofs.assign_lent.Symbol.{name as #core}
+use Rattle.ledger_lent.proofs.assign_lent.Met as core-thm
 use Rattle.ledger_lent.proofs.Heads.{headRow, answerRow, headVal, headVals, out, outVal, sliceAt, IsHead, IsAnswer, is-out, head-tells, AnswerCell, lent, head-typed, out-typed, owns-head, owns-out, answered, lends-head, head-back}
-use Rattle.ledger_lent.proofs.mark_through.Key.{name as #this}
-use Rattle.ledger_lent.proofs.mark_through as f
-use Rattle.ledger_lent.proofs.mark_through.Statement as stated
-use Rattle.ledger_lent.proofs.mark_through.Code as code
+use Rattle.ledger_lent.proofs.assign_through.Key.{name as #this}
+use Rattle.ledger_lent.proofs.assign_through as f
+use Rattle.ledger_lent.proofs.assign_through.Statement as stated
+use Rattle.ledger_lent.proofs.assign_through.Code as code
 
 abbrev stayed : Stays (f.ended .signature .params) (f.ended .kept)
 stayed = (stay-none (λ _. headRow) yes, (gave-slice (0 ∷ []) tt (plain (λ _. u64)), (gave-slice (1 ∷ []) tt (plain (λ _. u32)), (stay-none (λ _. usize) yes, (stay-none (λ _. usize) yes, (stay-none (λ _. bool) yes, tt))))))
@@ -85,12 +85,12 @@ module _ {M : Type 1} (𝓤 : URA M) (H : Heap 𝓤) (A : Atoms 𝓤) (W : Given
         move ! (31 ∷ 32 ∷ []) $ free1 ! $ move ! (29 ∷ 30 ∷ []) $ free1 ! $ move ! (27 ∷ 28 ∷ []) $ free1 ! $ move ! (25 ∷ 26 ∷ []) $ free1 ! $ move ! (23 ∷ 24 ∷ []) $ free1 ! $ move ! (21 ∷ 22 ∷ []) $ free1 ! $ move ! (19 ∷ 20 ∷ []) $ free1 ! $ move ! (2 ∷ 18 ∷ []) $ free1 ! $ move ! (15 ∷ 16 ∷ []) $ free1 ! $ move ! (13 ∷ 14 ∷ []) $ free1 ! $ move ! (11 ∷ 12 ∷ []) $ free1 ! $ move ! (9 ∷ 10 ∷ []) $ free1 ! $ move ! (7 ∷ 8 ∷ []) $ free1 ! $ move ! (5 ∷ 6 ∷ []) $ free1 ! $ move ! (3 ∷ 4 ∷ []) $ free1 ! $ free0 ! $
         keep ! (0 ∷ 1 ∷ 2 ∷ []) $ by ! (exits a zs k₁ k₂ is-a is-g e)))))))))))))))))))))))
 
-pub mark-through-spec : {M : Type 1} → stated.statement M
+pub assign-through-spec : {M : Type 1} → stated.statement M
 unfolding code.routine
-mark-through-spec 𝓤 H 𝓜 𝓖 𝓡 =
+assign-through-spec 𝓤 H 𝓜 𝓖 𝓡 =
     let W : Given 𝓤 H (𝓖 .A) = givenOf 𝓤 H 𝓜 𝓖 in
     one-callee 𝓤 H 𝓜 𝓖 𝓡 f.ended stayed (f.clauses 𝓤 H (𝓖 .A) (𝓜 .mem) (𝓡 .run)) code.function code.env #this (code.unfolded 𝓤 H 𝓜 𝓡)
-    #core (Core 𝓤 H (𝓖 .A) (𝓜 .mem) (𝓡 .run)) core-def.routine code.calls-ledger-lent·mark-lent (core-thm.met 𝓤 H 𝓜 𝓖 𝓡)
+    #core (Core 𝓤 H (𝓖 .A) (𝓜 .mem) (𝓡 .run)) core-def.routine code.calls-ledger-lent·assign-lent (core-thm.met 𝓤 H 𝓜 𝓖 𝓡)
     (goes-none 𝓤 H (𝓖 .A) W 2 (λ _. headRow) yes (λ κs x f. refl), (goes-gave-slice 𝓤 H (𝓖 .A) W 2 0 tt (plain (λ _. u64)), (goes-gave-slice 𝓤 H (𝓖 .A) W 2 1 tt (plain (λ _. u32)), (goes-none 𝓤 H (𝓖 .A) W 2 (λ _. usize) yes (λ κs x f. refl), (goes-none 𝓤 H (𝓖 .A) W 2 (λ _. usize) yes (λ κs x f. refl), (goes-none 𝓤 H (𝓖 .A) W 2 (λ _. bool) yes (λ κs x f. refl), tt))))))
     (λ κs. (headVals, (slice-vals, (slice-vals, (uint-vals w64, (uint-vals w64, (bool-vals, tt)))))))
     (λ κs. (head-tells, (mut-slice-tells (named 0) (κs .0) u64, (mut-slice-tells (named 1) (κs .1 .0) u32, (uint-tells w64, (uint-tells w64, (bool-tells, tt)))))))

@@ -1,0 +1,13 @@
+-- Laws of replies. Assumes nothing.
+use mathlib.Core.Path.{_≡_, refl}
+use mathlib.Core.List.{List}
+use Prim.Native.Nat.{ℕ}
+use native.Mathlib.Omega.{arith}
+use Rattle.positions.specs.Replies.{Reply, Numbers, Refusal, refused, Accepted}
+
+pub accepted-refused : (r : Reply) → Accepted r → refused r ≡ 0
+accepted-refused (Numbers ns) y = refl
+accepted-refused (Refusal k vs) y = absurd y
+
+pub numbers-refusal : (xs ys : List ℕ) (n : ℕ) → Numbers xs ≡ Refusal n ys → ⊥
+numbers-refusal xs ys n e = let z : _≡_ {A = ℕ} 0 1 = cc in omega arith
