@@ -5,6 +5,8 @@
 // Most cases have 2 words, in one block. The storage is then: word 0, word 1, the block's nonzero mask, its full mask, its
 // population, the top nonzero mask, the top full mask. Word 0 is 11, three positions; word 1 is full, so what stands there is
 // stale; the population is 67.
+use command_lines::Answer;
+use libc::STDOUT_FILENO;
 use range_bitset::RangeBitset;
 use range_bitset::Tested;
 
@@ -12,12 +14,14 @@ fn print_answer(answer: Tested) {
     match answer {
         Tested::Is(sound) => {
             if sound {
-                say::text(b"yes\n");
+                io::write_all(STDOUT_FILENO, b"yes\n");
             } else {
-                say::text(b"no\n");
+                io::write_all(STDOUT_FILENO, b"no\n");
             }
         }
-        Tested::Refused(k) => say::refused(k),
+        Tested::Refused(k) => {
+            say::print(Answer::Refused(k));
+        }
     }
 }
 
@@ -28,8 +32,8 @@ fn audited(name: &[u8], words: u32, len: u32, allocated: bool, storage: &[u64]) 
         len,
         allocated,
     };
-    say::text(name);
-    say::text(b": ");
+    io::write_all(STDOUT_FILENO, name);
+    io::write_all(STDOUT_FILENO, b": ");
     print_answer(audit::audit(head, storage));
 }
 

@@ -1,12 +1,26 @@
--- What `sheetmark` prints for an answer, and where it stands in the output. Assumes nothing.
+-- What `sheetmark` prints for a reply and for an answer, and where it stands in the output. Assumes nothing.
 use mathlib.Core.Bool.{Bool, cond}
-use mathlib.Core.List.{List, [], _∷_, _++_}
-use Prim.Native.Nat.{ℕ, zero, suc, _+_, _/_, _%_}
+use mathlib.Core.List.{List, [], _∷_, _++_, map}
+use Prim.Native.Nat.{ℕ, zero, suc, _+_, _/_, _%_, _^_}
 use lib.ListN.{length}
 use lib.Seq.{sets}
 use lib.Dec.{leb, ltb}
+use Rattle.positions.specs.Replies.{Reply, Numbers, Refusal}
 use Rattle.command_lines.specs.declared.Answer.{Answer}
 use Rattle.command_lines.specs.declared.Answer.the-variants.{Number, Nothing, Refused, BadLine}
+
+-- what is printed for a reply: its first number, or `none`; never `bad line`
+abbrev pub answerOf : Reply → Answer
+answerOf (Numbers []) = Nothing
+answerOf (Numbers (n ∷ ns)) = Number n
+answerOf (Refusal k vs) = Refused k
+
+-- the numbers in 32 bits
+abbrev pub low32 : Reply → Reply
+low32 (Numbers ns) = Numbers (map (λ n. n % 2 ^ 32) ns)
+low32 (Refusal k vs) = Refusal k vs
+
+-- ---- the text
 
 -- the decimal digits of n, by at most `steps` of them
 unfoldable pub digitsWithin : ℕ → ℕ → List ℕ

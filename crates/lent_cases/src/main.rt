@@ -1,5 +1,6 @@
 // 01's listing of the ledger with every call in the form where the head is lent, then a wipe. Prints each answer. `stdout` has
 // the answers that 01 gives, written from 01 and not by this code, then the wipe's. Assumes that the kit's write does what it says.
+use command_lines::Answer;
 use ledger::Called;
 use ledger::Ledger;
 use ledger::Opened;
@@ -9,7 +10,7 @@ use range_bitset::RangeBitset;
 fn said(got: Called) -> Ledger {
     let answer = got.answer;
     let head = got.head;
-    say::counted(answer);
+    say::print(say::of_counted(answer));
     head
 }
 
@@ -17,15 +18,15 @@ fn said(got: Called) -> Ledger {
 fn new(capacity: usize, limit: usize, storage: &[u64], journal: &[u32]) -> Ledger {
     match Ledger::new(capacity, limit, storage, journal) {
         Opened::Head(head) => {
-            say::number(0);
+            say::print(Answer::Number(0));
             head
         }
         Opened::Refused(k) => {
-            say::refused(k);
+            say::print(Answer::Refused(k));
             none()
         }
         Opened::BadRun(_) => {
-            say::refused(8);
+            say::print(Answer::Refused(8));
             none()
         }
     }
@@ -53,8 +54,8 @@ fn marked(head: Ledger, storage: &mut [u64], journal: &mut [u32]) -> Ledger {
 fn filled(head: Ledger, storage: &mut [u64], journal: &mut [u32]) -> Ledger {
     let head = said(ledger_lent::assign_through(head, storage, journal, 0, 128, true));
     let set = head.set;
-    say::found(set.next_zero(storage, 0, 128));
-    say::counted(set.count(storage, 64, 128));
+    say::print(say::of_found(set.next_zero(storage, 0, 128)));
+    say::print(say::of_counted(set.count(storage, 64, 128)));
     head
 }
 
@@ -62,9 +63,9 @@ fn filled(head: Ledger, storage: &mut [u64], journal: &mut [u32]) -> Ledger {
 fn taken_back(head: Ledger, storage: &mut [u64], journal: &[u32]) -> Ledger {
     let head = said(ledger_lent::take_back_through(head, storage, journal));
     let set = head.set;
-    say::found(set.next_one(storage, 0, 128));
-    say::found(set.next_zero(storage, 10, 128));
-    say::counted(set.count(storage, 0, 128));
+    say::print(say::of_found(set.next_one(storage, 0, 128)));
+    say::print(say::of_found(set.next_zero(storage, 10, 128)));
+    say::print(say::of_counted(set.count(storage, 0, 128)));
     head
 }
 
@@ -80,8 +81,8 @@ fn mixed(head: Ledger, storage: &mut [u64], journal: &mut [u32]) -> Ledger {
     let first = two.first;
     let second = two.second;
     let last = two.head;
-    say::counted(first);
-    say::counted(second);
+    say::print(say::of_counted(first));
+    say::print(say::of_counted(second));
     said(ledger_lent::assign_through(last, storage, journal, 1, 4, true))
 }
 

@@ -1,16 +1,25 @@
 // Reads the runs of a small saved list through the reader that holds the bytes and a run index, lent to two steps in turn, and
 // prints each run, what stands past the last one, the index there, and what stands far past it. `stdout` has the answers that
 // 01's format gives. Assumes that the kit's write does what it says.
+use libc::STDOUT_FILENO;
 use saved_list::FoundRun;
+
+// A number's line.
+fn say_number(number: u64) {
+    io::print_decimal(STDOUT_FILENO, number);
+    io::write_all(STDOUT_FILENO, b"\n");
+}
 
 fn say_run(found: FoundRun) {
     match found {
         FoundRun::At(start, end) => {
-            say::decimal(start as u64);
-            say::text(b"..");
-            say::number(end as u64);
+            io::print_decimal(STDOUT_FILENO, start as u64);
+            io::write_all(STDOUT_FILENO, b"..");
+            say_number(end as u64);
         }
-        FoundRun::End => say::text(b"none\n"),
+        FoundRun::End => {
+            io::write_all(STDOUT_FILENO, b"none\n");
+        }
     }
 }
 
@@ -30,7 +39,7 @@ fn main() {
         *b"MSL\x00\x01\x00\x04\x00\x00\x00\x03\x00\x00\x00\x01\x00\x00\x00\x05\x00\x00\x00\x0a\x00\x00\x00\x14\x00\x00\x00\x40\x00\x00\x01\x00";
     let at = say_two(&file, 0);
     let at = say_two(&file, at);
-    say::number(at as u64);
+    say_number(at as u64);
     let far = saved_list::two_steps(&file, usize::MAX);
     let none = far.first;
     say_run(none);

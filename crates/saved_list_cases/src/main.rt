@@ -2,10 +2,15 @@
 // refusal 7 for the header, 7 for the length, or 8 with the first bad run's index, or else W, n and the runs.
 // What it prints is held to `stdout`, which was made from 01's format and not by this code. Assumes that the kit's arguments, open,
 // read and write do what they say, and that a file has at most 4,096 bytes: more are not read.
+use libc::STDOUT_FILENO;
 use saved_list::FoundRun;
 use saved_list::Header;
 use saved_list::LengthCheck;
 use saved_list::RunCheck;
+
+fn print(text: &[u8]) {
+    io::write_all(STDOUT_FILENO, text);
+}
 
 // The run of an index, as start..end, and whether there is one.
 fn print_run(file: &[u8], index: usize) -> bool {
@@ -13,10 +18,10 @@ fn print_run(file: &[u8], index: usize) -> bool {
     let FoundRun::At(start, end) = found else {
         return false;
     };
-    say::text(b", ");
-    say::decimal(start as u64);
-    say::text(b"..");
-    say::decimal(end as u64);
+    print(b", ");
+    io::print_decimal(STDOUT_FILENO, start as u64);
+    print(b"..");
+    io::print_decimal(STDOUT_FILENO, end as u64);
     true
 }
 
@@ -32,14 +37,14 @@ fn print_runs(file: &[u8]) {
 fn print_checked(file: &[u8], words: u16, count: u32) {
     match saved_list::check_runs(file) {
         RunCheck::BadRun(index) => {
-            say::text(b"refused 8, run ");
-            say::decimal(index as u64);
+            print(b"refused 8, run ");
+            io::print_decimal(STDOUT_FILENO, index as u64);
         }
         RunCheck::AllGood => {
-            say::text(b"W ");
-            say::decimal(words as u64);
-            say::text(b", n ");
-            say::decimal(count as u64);
+            print(b"W ");
+            io::print_decimal(STDOUT_FILENO, words as u64);
+            print(b", n ");
+            io::print_decimal(STDOUT_FILENO, count as u64);
             print_runs(file);
         }
     }
@@ -48,9 +53,9 @@ fn print_checked(file: &[u8], words: u16, count: u32) {
 // What opening the file gives, but for refusals 1 and 3.
 fn print_file(file: &[u8]) {
     match saved_list::read_header(file) {
-        Header::BadHeader => say::text(b"refused 7, header"),
+        Header::BadHeader => print(b"refused 7, header"),
         Header::Fields(words, count) => match saved_list::check_length(file) {
-            LengthCheck::BadLength => say::text(b"refused 7, length"),
+            LengthCheck::BadLength => print(b"refused 7, length"),
             LengthCheck::GoodLength => print_checked(file, words, count),
         },
     }
@@ -68,10 +73,10 @@ fn print_named(argument: usize) {
     let mut bytes = io::buffer();
     let n = io::read_full(fd, &mut bytes);
     libc::close(fd);
-    say::text(&path[..length]);
-    say::text(b": ");
+    print(&path[..length]);
+    print(b": ");
     print_file(&bytes[..n]);
-    say::text(b"\n");
+    print(b"\n");
 }
 
 fn main() {

@@ -1,51 +1,53 @@
-// What the gate's programs print with: a text, a number, and the set's answers, each on standard output. For those programs
-// alone: no promise rests on it, and its functions are proved to be safe and to end, and promise nothing more. Assumes that the
-// kit's write does what it says.
+// What is printed for an answer of the set, for `sheetmark` and for the gate's programs; and an answer's line printed, for the
+// latter. The text of a line is command_lines'. No contract can say what is written, so `print` promises the line's length alone.
+// Assumes that the kit's write does what it says.
+ghost use mathlib.Core.Path.{_≡_};
+ghost use lib.ListN.{length};
+ghost use Rattle.range_bitset.specs.Answers.{ofCounted, ofTested, ofFound};
+ghost use Rattle.command_lines.specs.Answers.{printed, answerOf, low32};
+use command_lines::Answer;
 use libc::STDOUT_FILENO;
 use range_bitset::Counted;
 use range_bitset::Found;
 use range_bitset::Tested;
 
-pub fn text(bytes: &[u8]) {
-    io::write_all(STDOUT_FILENO, bytes);
-}
-
-// A number in decimal, with no newline.
-pub fn decimal(number: u64) {
-    io::print_decimal(STDOUT_FILENO, number);
-}
-
-// A number's line.
-pub fn number(number: u64) {
-    decimal(number);
-    text(b"\n");
-}
-
-// A refusal's line.
-pub fn refused(kind: u8) {
-    text(b"refused ");
-    number(kind as u64);
-}
-
-pub fn counted(answer: Counted) {
-    match answer {
-        Counted::Count(n) => number(n as u64),
-        Counted::Refused(k) => refused(k),
+// A count, as it is printed.
+pub fn of_counted(counted: Counted) -> Answer
+    ensures { λ r. ⌜ r ≡ answerOf (ofCounted counted) ⌝ }
+{
+    match counted {
+        Counted::Count(n) => Answer::Number(n),
+        Counted::Refused(k) => Answer::Refused(k),
     }
 }
 
-// 1 for yes, 0 for no.
-pub fn tested(answer: Tested) {
-    match answer {
-        Tested::Is(b) => number(if b { 1 } else { 0 }),
-        Tested::Refused(k) => refused(k),
+// A truth, as it is printed: 1 for yes, 0 for no.
+pub fn of_tested(tested: Tested) -> Answer
+    ensures { λ r. ⌜ r ≡ answerOf (ofTested tested) ⌝ }
+{
+    match tested {
+        Tested::Is(b) => Answer::Number(if b { 1 } else { 0 }),
+        Tested::Refused(k) => Answer::Refused(k),
     }
 }
 
-pub fn found(answer: Found) {
-    match answer {
-        Found::At(i) => number(i as u64),
-        Found::Nothing => text(b"none\n"),
-        Found::Refused(k) => refused(k),
+// A place, as it is printed. A position is below the capacity, so that 32 bits hold it; any other number is cut to them.
+pub fn of_found(found: Found) -> Answer
+    ensures { λ r. ⌜ r ≡ answerOf (low32 (ofFound found)) ⌝ }
+{
+    match found {
+        Found::At(i) => Answer::Number((i % 0x1_0000_0000) as u32),
+        Found::Nothing => Answer::Nothing,
+        Found::Refused(k) => Answer::Refused(k),
     }
+}
+
+// Prints an answer's line, and answers how many bytes it has: 12 at the most.
+pub fn print(answer: Answer) -> usize
+    ensures { λ r. ⌜ r ≡ length (printed answer) ⌝ }
+{
+    let mut line = [0u8; 12];
+    let n = command_lines::put_answer(&mut line, 0, answer);
+    io::write_all(STDOUT_FILENO, &line[..n]);
+    n
 }

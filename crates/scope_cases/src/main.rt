@@ -1,24 +1,31 @@
 // Runs 01's cases that have no star, by the set and then by the ledger, and prints each answer. `stdout` has the answers that
 // 01 gives, written from 01 and not by this code. The storage and the journal start with numbers that mean nothing: a fresh
 // set or ledger believes none of them. Assumes that the kit's write does what it says.
+use command_lines::Answer;
 use ledger::Called;
 use ledger::Ledger;
 use ledger::Opened;
+use libc::STDOUT_FILENO;
 use range_bitset::Assigned;
 use range_bitset::Made;
 use range_bitset::RangeBitset;
 use range_bitset::Updated;
 
+// Prints a name and an answer's line.
+fn told(name: &[u8], answer: Answer) {
+    io::write_all(STDOUT_FILENO, name);
+    say::print(answer);
+}
+
 // Says the capacity of a new set, or why there is none. A refused one gives a head that every call refuses.
 fn new(name: &[u8], capacity: usize) -> RangeBitset {
-    say::text(name);
     match RangeBitset::new(capacity) {
         Made::Head(head) => {
-            say::counted(head.capacity());
+            told(name, say::of_counted(head.capacity()));
             head
         }
         Made::Refused(k) => {
-            say::refused(k);
+            told(name, Answer::Refused(k));
             RangeBitset {
                 words: 0,
                 len: 0,
@@ -32,16 +39,14 @@ fn new(name: &[u8], capacity: usize) -> RangeBitset {
 fn assigned(name: &[u8], got: Assigned) -> RangeBitset {
     let answer = got.answer;
     let head = got.head;
-    say::text(name);
-    say::counted(answer);
+    told(name, say::of_counted(answer));
     head
 }
 
 fn updated(name: &[u8], got: Updated) -> RangeBitset {
     let answer = got.answer;
     let head = got.head;
-    say::text(name);
-    say::tested(answer);
+    told(name, say::of_tested(answer));
     head
 }
 
@@ -49,8 +54,10 @@ fn updated(name: &[u8], got: Updated) -> RangeBitset {
 fn over_a_border(storage: &mut [u64]) {
     let head = new(b"new 8192: ", 8192);
     let head = assigned(b"set 4032..4160: ", head.assign(storage, 4032, 4160, true));
-    say::text(b"count 4095..4097: ");
-    say::counted(head.count(storage, 4095, 4097));
+    told(
+        b"count 4095..4097: ",
+        say::of_counted(head.count(storage, 4095, 4097)),
+    );
 }
 
 // One block of a full set cleared.
@@ -61,10 +68,14 @@ fn a_block_cleared(storage: &mut [u64]) {
         b"clear 4096..8192: ",
         head.assign(storage, 4096, 8192, false),
     );
-    say::text(b"next_zero 0..16384: ");
-    say::found(head.next_zero(storage, 0, 16384));
-    say::text(b"next_one 4096..16384: ");
-    say::found(head.next_one(storage, 4096, 16384));
+    told(
+        b"next_zero 0..16384: ",
+        say::of_found(head.next_zero(storage, 0, 16384)),
+    );
+    told(
+        b"next_one 4096..16384: ",
+        say::of_found(head.next_one(storage, 4096, 16384)),
+    );
 }
 
 // The largest set, filled and emptied.
@@ -78,8 +89,7 @@ fn emptied(storage: &mut [u64]) -> RangeBitset {
 fn set_again(storage: &mut [u64]) {
     let head = emptied(storage);
     let head = updated(b"set 4095: ", head.set(storage, 4095, true));
-    say::text(b"population: ");
-    say::counted(head.len());
+    told(b"population: ", say::of_counted(head.len()));
 }
 
 fn not_allowed() {
@@ -91,17 +101,13 @@ fn not_allowed() {
 
 // Says 0 for a new ledger, or why there is none. A refused one gives a head that every call refuses.
 fn began(name: &[u8], got: Opened) -> Ledger {
-    say::text(name);
     match got {
         Opened::Head(head) => {
-            say::number(0);
+            told(name, Answer::Number(0));
             return head;
         }
-        Opened::Refused(k) => say::refused(k),
-        Opened::BadRun(index) => {
-            say::text(b"refused 8, run ");
-            say::number(index as u64);
-        }
+        Opened::Refused(k) => told(name, Answer::Refused(k)),
+        Opened::BadRun(_) => told(name, Answer::Refused(8)),
     }
     Ledger {
         set: RangeBitset {
@@ -118,8 +124,7 @@ fn began(name: &[u8], got: Opened) -> Ledger {
 fn called(name: &[u8], got: Called) -> Ledger {
     let answer = got.answer;
     let head = got.head;
-    say::text(name);
-    say::counted(answer);
+    told(name, say::of_counted(answer));
     head
 }
 
@@ -131,8 +136,10 @@ fn border_marked(storage: &mut [u64], journal: &mut [u32]) -> Ledger {
         head.mark(storage, journal, 4032, 4160),
     );
     let set = head.set;
-    say::text(b"count 4095..4097: ");
-    say::counted(set.count(storage, 4095, 4097));
+    told(
+        b"count 4095..4097: ",
+        say::of_counted(set.count(storage, 4095, 4097)),
+    );
     head
 }
 
@@ -171,8 +178,7 @@ fn marked_again(storage: &mut [u64], journal: &mut [u32]) -> Ledger {
         head.mark_point(storage, journal, 4095),
     );
     let set = head.set;
-    say::text(b"population: ");
-    say::counted(set.len());
+    told(b"population: ", say::of_counted(set.len()));
     head
 }
 

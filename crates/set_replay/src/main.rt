@@ -4,12 +4,11 @@
 //
 // The list is read byte by byte, so that a line is never longer than its four parts. Assumes that the kit's read and write do
 // what they say, and that a list's numbers have at most nine digits.
+use command_lines::Answer;
+use libc::STDOUT_FILENO;
 use range_bitset::Assigned;
-use range_bitset::Counted;
-use range_bitset::Found;
 use range_bitset::Made;
 use range_bitset::RangeBitset;
-use range_bitset::Tested;
 use range_bitset::Updated;
 
 // The line under way: its letter, the number that the next digit belongs to, and its numbers.
@@ -21,17 +20,9 @@ struct Line {
     third: usize,
 }
 
-// What a line prints.
-enum Said {
-    Number(u64),
-    Nothing,
-    Refused(u8),
-    Bad,
-}
-
 // What a call prints, and the head as it is afterwards.
 struct Done {
-    said: Said,
+    said: Answer,
     head: RangeBitset,
 }
 
@@ -93,37 +84,15 @@ fn taken(line: Line, byte: u8) -> Line {
     }
 }
 
-fn counted(answer: Counted) -> Said {
-    match answer {
-        Counted::Count(n) => Said::Number(n as u64),
-        Counted::Refused(k) => Said::Refused(k),
-    }
-}
-
-fn tested(answer: Tested) -> Said {
-    match answer {
-        Tested::Is(b) => Said::Number(if b { 1 } else { 0 }),
-        Tested::Refused(k) => Said::Refused(k),
-    }
-}
-
-fn found(answer: Found) -> Said {
-    match answer {
-        Found::At(i) => Said::Number(i as u64),
-        Found::Nothing => Said::Nothing,
-        Found::Refused(k) => Said::Refused(k),
-    }
-}
-
 // A new set: its capacity, and its head.
 fn renewed(head: RangeBitset, capacity: usize) -> Done {
     match RangeBitset::new(capacity) {
         Made::Head(made) => Done {
-            said: counted(made.capacity()),
+            said: say::of_counted(made.capacity()),
             head: made,
         },
         Made::Refused(k) => Done {
-            said: Said::Refused(k),
+            said: Answer::Refused(k),
             head,
         },
     }
@@ -133,7 +102,7 @@ fn assigned(got: Assigned) -> Done {
     let answer = got.answer;
     let head = got.head;
     Done {
-        said: counted(answer),
+        said: say::of_counted(answer),
         head,
     }
 }
@@ -142,7 +111,7 @@ fn updated(got: Updated) -> Done {
     let answer = got.answer;
     let head = got.head;
     Done {
-        said: tested(answer),
+        said: say::of_tested(answer),
         head,
     }
 }
@@ -166,13 +135,13 @@ fn changed(head: RangeBitset, storage: &mut [u64], line: Line) -> Done {
         return assigned(head.clear(storage));
     }
     Done {
-        said: Said::Bad,
+        said: Answer::BadLine,
         head,
     }
 }
 
 // The calls that ask.
-fn asked(head: RangeBitset, storage: &[u64], line: Line) -> Said {
+fn asked(head: RangeBitset, storage: &[u64], line: Line) -> Answer {
     let Line {
         kind,
         field,
@@ -181,24 +150,24 @@ fn asked(head: RangeBitset, storage: &[u64], line: Line) -> Said {
         third,
     } = line;
     if kind == b'g' {
-        return tested(head.get(storage, first));
+        return say::of_tested(head.get(storage, first));
     }
     if kind == b'c' {
-        return counted(head.count(storage, first, second));
+        return say::of_counted(head.count(storage, first, second));
     }
     if kind == b'o' {
-        return found(head.next_one(storage, first, second));
+        return say::of_found(head.next_one(storage, first, second));
     }
     if kind == b'z' {
-        return found(head.next_zero(storage, first, second));
+        return say::of_found(head.next_zero(storage, first, second));
     }
     if kind == b'l' {
-        return counted(head.len());
+        return say::of_counted(head.len());
     }
     if kind == b'k' {
-        return counted(head.capacity());
+        return say::of_counted(head.capacity());
     }
-    Said::Bad
+    Answer::BadLine
 }
 
 fn changes(kind: u8) -> bool {
@@ -218,13 +187,13 @@ fn performed(head: RangeBitset, storage: &mut [u64], line: Line) -> Done {
     }
 }
 
-fn print(said: Said) {
-    match said {
-        Said::Number(n) => say::number(n),
-        Said::Nothing => say::text(b"-\n"),
-        Said::Refused(k) => say::refused(k),
-        Said::Bad => say::text(b"bad line\n"),
+// The Rust's list has `-` where an answer's text is `none`.
+fn print(said: Answer) {
+    if let Answer::Nothing = said {
+        io::write_all(STDOUT_FILENO, b"-\n");
+        return;
     }
+    say::print(said);
 }
 
 // One byte of the list. A newline ends the line: its call is made and its answer printed.

@@ -28,7 +28,8 @@ use Rattle.command_lines.specs.declared.Answer.{Answer}
 use Rattle.command_lines.specs.declared.Answer.the-variants as answer
 use Rattle.command_lines.proofs.Command.{the-type}
 use Rattle.sheetmark.specs.declared.Performed.{Performed}
-use Rattle.sheetmark.specs.Performing.{answerOf, low32, Starts, IsBad, Calls, Asks, Seeks, Performs}
+use Rattle.sheetmark.specs.Performing.{Starts, IsBad, Calls, Asks, Seeks, Performs}
+use Rattle.command_lines.specs.Answers.{answerOf, low32}
 
 -- ---- the arm of a known command, and of a known outcome of `new`
 

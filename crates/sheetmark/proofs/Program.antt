@@ -26,7 +26,8 @@ use Rattle.command_lines.specs.declared.Answer.the-variants as answer
 use Rattle.command_lines.specs.Lines.{meaning}
 use Rattle.command_lines.specs.Input.{lines, linesFrom, unended, Buffered}
 use Rattle.command_lines.proofs.Buffers.{holds-none}
-use Rattle.sheetmark.specs.Performing.{answerOf, low32, IsBad, Starts, Calls, Asks, Seeks, Performs}
+use Rattle.sheetmark.specs.Performing.{IsBad, Starts, Calls, Asks, Seeks, Performs}
+use Rattle.command_lines.specs.Answers.{answerOf, low32}
 use Rattle.sheetmark.specs.Answering.{State, AnswersLine, Serves, none, line, texts, ReadAnswered}
 use Rattle.sheetmark.specs.Program.{Present, NoLedger, With, Response, started, called, asked, respond, responses, presentAfter, Follows, Lent, Reading, part, Run, end, joined, outputFor, Answered, RunsAsPlain, AnswersAtOnce, Served, ended, too-long}
 use Rattle.sheetmark.specs.Program as program

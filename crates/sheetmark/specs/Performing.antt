@@ -2,12 +2,12 @@
 -- printed. Assumes nothing.
 use mathlib.Core.Path.{_≡_}
 use mathlib.Core.Bool.{Bool, true, false}
-use mathlib.Core.List.{List, [], _∷_, map}
-use Prim.Native.Nat.{ℕ, _%_, _^_}
+use mathlib.Core.List.{List}
+use Prim.Native.Nat.{ℕ}
 use lib.ListN.{length}
 use Rattle.positions.specs.Positions.{Positions, count, first}
 use Rattle.range_bitset.specs.Represents.{Represents}
-use Rattle.positions.specs.Replies.{Reply, Numbers, Refusal, number, ofPlace}
+use Rattle.positions.specs.Replies.{Reply, number, ofPlace}
 use Rattle.range_bitset.specs.Answers.{rangeRefusal}
 use Rattle.range_bitset.specs.Entries.{Answers}
 use Rattle.ledger.specs.Machine.{Call, Range, Back, Wipe}
@@ -15,22 +15,12 @@ use Rattle.ledger.specs.Memory.{Memory, memory}
 use Rattle.ledger.specs.Entries.{CallEnsures, newOf}
 use Rattle.ledger.specs.declared.Opened.{Opened}
 use Rattle.ledger.specs.declared.Opened.the-variants as opened
+use Rattle.command_lines.specs.Answers.{answerOf, low32}
 use Rattle.command_lines.specs.declared.Command.{Command}
 use Rattle.command_lines.specs.declared.Command.the-variants as command
 use Rattle.command_lines.specs.declared.Answer.{Answer}
 use Rattle.command_lines.specs.declared.Answer.the-variants as answer
 use Rattle.sheetmark.specs.declared.Performed.{Performed}
-
--- what is printed for a reply: its first number, or `none`; never `bad line`
-abbrev pub answerOf : Reply → Answer
-answerOf (Numbers []) = answer.Nothing
-answerOf (Numbers (n ∷ ns)) = answer.Number n
-answerOf (Refusal k vs) = answer.Refused k
-
--- the numbers in 32 bits
-abbrev pub low32 : Reply → Reply
-low32 (Numbers ns) = Numbers (map (λ n. n % 2 ^ 32) ns)
-low32 (Refusal k vs) = Refusal k vs
 
 -- `bad line` is printed, and nothing is changed
 pub record IsBad (live : Bool) (x : Memory) (a : Answer) (live′ : Bool) (y : Memory) : Type 0 where

@@ -18,7 +18,7 @@ use Rattle.command_lines.specs.declared.Answer.{Answer}
 use Rattle.command_lines.specs.declared.Answer.the-variants as answer
 use Rattle.command_lines.specs.Lines.{meaning}
 use Rattle.command_lines.specs.Input.{lines, linesFrom}
-use Rattle.sheetmark.specs.Performing.{answerOf}
+use Rattle.command_lines.specs.Answers.{answerOf}
 use Rattle.sheetmark.specs.Answering.{State, texts, Part, End}
 
 -- ---- the plain program

@@ -6,49 +6,29 @@ ghost use mathlib.Core.Bool.{true, false};
 ghost use mathlib.Core.List.{List};
 ghost use Prim.Native.Nat.{ℕ, _+_, _*_, _≤_, _<_};
 ghost use lib.ListN.{length, take, replicate};
-ghost use Rattle.range_bitset.specs.Answers.{ofCounted, ofFound};
+ghost use Rattle.range_bitset.specs.Answers.{ofCounted};
 ghost use Rattle.ledger.specs.Memory.{memory};
-ghost use Rattle.sheetmark.specs.Performing.{Leaves, answerOf, low32};
+ghost use Rattle.sheetmark.specs.Performing.{Leaves};
+ghost use Rattle.command_lines.specs.Answers.{answerOf};
 ghost use Rattle.sheetmark.specs.Answering.{stateOf, PartAnswered, End, ReadAnswered};
 ghost use Rattle.sheetmark.specs.Program.{Served};
 ghost use Rattle.sheetmark.specs.Inner.{LineAnswered};
 ghost use Rattle.command_lines.specs.declared.Command.the-variants.{New};
-ghost use Rattle.command_lines.specs.Input.{Buffered};
+ghost use Rattle.command_lines.specs.Input.{Holds};
 use command_lines::Answer;
 use command_lines::Command;
 use ledger::Called;
 use ledger::Ledger;
 use ledger::Opened;
-use range_bitset::Counted;
-use range_bitset::Found;
 use range_bitset::RangeBitset;
+use say::of_counted;
+use say::of_found;
 
 // What a command leaves: what is printed, the ledger's head, and whether there is a ledger.
 pub struct Performed {
     pub answer: Answer,
     pub head: Ledger,
     pub live: bool,
-}
-
-// A count, as it is printed.
-fn of_counted(counted: Counted) -> Answer
-    ensures { λ r. ⌜ r ≡ answerOf (ofCounted counted) ⌝ }
-{
-    match counted {
-        Counted::Count(n) => Answer::Number(n),
-        Counted::Refused(k) => Answer::Refused(k),
-    }
-}
-
-// A place, as it is printed. A position is below the capacity, so that 32 bits hold it; any other number is cut to them.
-fn of_found(found: Found) -> Answer
-    ensures { λ r. ⌜ r ≡ answerOf (low32 (ofFound found)) ⌝ }
-{
-    match found {
-        Found::At(i) => Answer::Number((i % 0x1_0000_0000) as u32),
-        Found::Nothing => Answer::Nothing,
-        Found::Refused(k) => Answer::Refused(k),
-    }
 }
 
 // What a call of the ledger leaves.
@@ -210,7 +190,7 @@ fn answer_part(
     requires { ⌜ session .kept ≤ length (now line) ⌝ }
     requires { ⌜ 27 < length (now line) ⌝ }
     requires { ⌜ 12 * length (now text) ≤ length (now out) ⌝ }
-    ensures { λ r. ⌜ ((l : List ℕ) → Buffered (now (line .entry)) (session .kept) l → PartAnswered (now (text .entry)) l (stateOf session (storage .entry) (journal .entry)) (stateOf r (storage .exit) (journal .exit)) (take (r .filled) (now (out .exit))) (r .kept) (now (line .exit))) ⌝ }
+    ensures { λ r. ⌜ ((l : List ℕ) → Holds (now (line .entry)) (session .kept) l → PartAnswered (now (text .entry)) l (stateOf session (storage .entry) (journal .entry)) (stateOf r (storage .exit) (journal .exit)) (take (r .filled) (now (out .exit))) (r .kept) (now (line .exit))) ⌝ }
     ensures { λ r. ⌜ r .kept ≤ length (now (line .exit)) ⌝ }
     ensures { λ r. ⌜ r .filled ≤ length (now (out .exit)) ⌝ }
 {
@@ -240,7 +220,7 @@ fn answer_last_line(
     requires { ⌜ session .kept ≤ length (now line) ⌝ }
     requires { ⌜ 27 < length (now line) ⌝ }
     requires { ⌜ 12 ≤ length (now out) ⌝ }
-    ensures { λ r. ⌜ ((l : List ℕ) → Buffered (now (line .entry)) (session .kept) l → End l (stateOf session (storage .entry) (journal .entry)) (stateOf r (storage .exit) (journal .exit)) (take (r .filled) (now (out .exit)))) ⌝ }
+    ensures { λ r. ⌜ ((l : List ℕ) → Holds (now (line .entry)) (session .kept) l → End l (stateOf session (storage .entry) (journal .entry)) (stateOf r (storage .exit) (journal .exit)) (take (r .filled) (now (out .exit)))) ⌝ }
     ensures { λ r. ⌜ r .kept ≤ length (now (line .exit)) ⌝ }
     ensures { λ r. ⌜ r .filled ≤ length (now (out .exit)) ⌝ }
 {
@@ -265,7 +245,7 @@ fn answer_read(
     requires { ⌜ 27 < length (now line) ⌝ }
     requires { ⌜ 12 ≤ length (now out) ⌝ }
     requires { ⌜ 12 * length (now text) ≤ length (now out) ⌝ }
-    ensures { λ r. ⌜ ((l : List ℕ) → Buffered (now (line .entry)) (session .kept) l → ReadAnswered (now (text .entry)) l (stateOf session (storage .entry) (journal .entry)) (stateOf r (storage .exit) (journal .exit)) (take (r .filled) (now (out .exit))) (r .kept) (now (line .exit))) ⌝ }
+    ensures { λ r. ⌜ ((l : List ℕ) → Holds (now (line .entry)) (session .kept) l → ReadAnswered (now (text .entry)) l (stateOf session (storage .entry) (journal .entry)) (stateOf r (storage .exit) (journal .exit)) (take (r .filled) (now (out .exit))) (r .kept) (now (line .exit))) ⌝ }
     ensures { λ r. ⌜ r .kept ≤ length (now (line .exit)) ⌝ }
     ensures { λ r. ⌜ r .filled ≤ length (now (out .exit)) ⌝ }
 {

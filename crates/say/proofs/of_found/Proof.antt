@@ -1,11 +1,11 @@
--- `of_found` meets its contract. Assumes nothing.
+-- `say::of_found` meets its contract. Assumes nothing.
 use Rattle.range_bitset.specs.Answers.{ofFound}
 use Rattle.range_bitset.specs.declared.Found.{Found}
-use Rattle.sheetmark.specs.Performing.{answerOf, low32}
+use Rattle.command_lines.specs.Answers.{answerOf, low32}
 use mathlib.Core.Path.{sym, ap}
 use borrow.Author.Needs.{needs}
-use Rattle.sheetmark.proofs.of_found.Statement.{statement}
-use Rattle.sheetmark.proofs.of_found.Tie as tie
+use Rattle.say.proofs.of_found.Statement.{statement}
+use Rattle.say.proofs.of_found.Tie as tie
 
 returns : tie.Need-returns
 returns c = sym (ap (λ (p : Found). answerOf (low32 (ofFound p))) (c .before .found .given .1))

@@ -1,11 +1,11 @@
--- `of_counted` meets its contract. Assumes nothing.
+-- `say::of_counted` meets its contract. Assumes nothing.
 use Rattle.range_bitset.specs.Answers.{ofCounted}
 use Rattle.range_bitset.specs.declared.Counted.{Counted}
-use Rattle.sheetmark.specs.Performing.{answerOf}
+use Rattle.command_lines.specs.Answers.{answerOf}
 use mathlib.Core.Path.{sym, ap}
 use borrow.Author.Needs.{needs}
-use Rattle.sheetmark.proofs.of_counted.Statement.{statement}
-use Rattle.sheetmark.proofs.of_counted.Tie as tie
+use Rattle.say.proofs.of_counted.Statement.{statement}
+use Rattle.say.proofs.of_counted.Tie as tie
 
 returns : tie.Need-returns
 returns c = sym (ap (λ (n : Counted). answerOf (ofCounted n)) (c .before .counted .given .1))
