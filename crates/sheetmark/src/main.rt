@@ -14,7 +14,7 @@ ghost use Rattle.sheetmark.specs.Answering.{stateOf, PartAnswered, End, 
 ghost use Rattle.sheetmark.specs.Program.{Served};
 ghost use Rattle.sheetmark.specs.Inner.{LineAnswered};
 ghost use Rattle.command_lines.specs.declared.Command.the-variants.{New};
-ghost use Rattle.command_lines.specs.Input.{Holds};
+ghost use Rattle.command_lines.specs.Input.{Buffered};
 use command_lines::Answer;
 use command_lines::Command;
 use ledger::Called;
@@ -190,7 +190,7 @@ fn answer_part(
     requires { ⌜ session .kept ≤ length (now line) ⌝ }
     requires { ⌜ 27 < length (now line) ⌝ }
     requires { ⌜ 12 * length (now text) ≤ length (now out) ⌝ }
-    ensures { λ r. ⌜ ((l : List ℕ) → Holds (now (line .entry)) (session .kept) l → PartAnswered (now (text .entry)) l (stateOf session (storage .entry) (journal .entry)) (stateOf r (storage .exit) (journal .exit)) (take (r .filled) (now (out .exit))) (r .kept) (now (line .exit))) ⌝ }
+    ensures { λ r. ⌜ ((l : List ℕ) → Buffered (now (line .entry)) (session .kept) l → PartAnswered (now (text .entry)) l (stateOf session (storage .entry) (journal .entry)) (stateOf r (storage .exit) (journal .exit)) (take (r .filled) (now (out .exit))) (r .kept) (now (line .exit))) ⌝ }
     ensures { λ r. ⌜ r .kept ≤ length (now (line .exit)) ⌝ }
     ensures { λ r. ⌜ r .filled ≤ length (now (out .exit)) ⌝ }
 {
@@ -220,7 +220,7 @@ fn answer_last_line(
     requires { ⌜ session .kept ≤ length (now line) ⌝ }
     requires { ⌜ 27 < length (now line) ⌝ }
     requires { ⌜ 12 ≤ length (now out) ⌝ }
-    ensures { λ r. ⌜ ((l : List ℕ) → Holds (now (line .entry)) (session .kept) l → End l (stateOf session (storage .entry) (journal .entry)) (stateOf r (storage .exit) (journal .exit)) (take (r .filled) (now (out .exit)))) ⌝ }
+    ensures { λ r. ⌜ ((l : List ℕ) → Buffered (now (line .entry)) (session .kept) l → End l (stateOf session (storage .entry) (journal .entry)) (stateOf r (storage .exit) (journal .exit)) (take (r .filled) (now (out .exit)))) ⌝ }
     ensures { λ r. ⌜ r .kept ≤ length (now (line .exit)) ⌝ }
     ensures { λ r. ⌜ r .filled ≤ length (now (out .exit)) ⌝ }
 {
@@ -245,7 +245,7 @@ fn answer_read(
     requires { ⌜ 27 < length (now line) ⌝ }
     requires { ⌜ 12 ≤ length (now out) ⌝ }
     requires { ⌜ 12 * length (now text) ≤ length (now out) ⌝ }
-    ensures { λ r. ⌜ ((l : List ℕ) → Holds (now (line .entry)) (session .kept) l → ReadAnswered (now (text .entry)) l (stateOf session (storage .entry) (journal .entry)) (stateOf r (storage .exit) (journal .exit)) (take (r .filled) (now (out .exit))) (r .kept) (now (line .exit))) ⌝ }
+    ensures { λ r. ⌜ ((l : List ℕ) → Buffered (now (line .entry)) (session .kept) l → ReadAnswered (now (text .entry)) l (stateOf session (storage .entry) (journal .entry)) (stateOf r (storage .exit) (journal .exit)) (take (r .filled) (now (out .exit))) (r .kept) (now (line .exit))) ⌝ }
     ensures { λ r. ⌜ r .kept ≤ length (now (line .exit)) ⌝ }
     ensures { λ r. ⌜ r .filled ≤ length (now (out .exit)) ⌝ }
 {
