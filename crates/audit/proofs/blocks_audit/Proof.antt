@@ -22,29 +22,14 @@ Inv-loop head storage capacity block₀ population₀ block population =
 abbrev μ-loop : tie.MeasureT-loop
 μ-loop head storage capacity block₀ population₀ block population = blocks (head .words) - block
 
-cast-capacity : tie.Need-cast-capacity Inv-loop μ-loop
-cast-capacity c = omega arith
-
-mul-capacity : tie.Need-mul-capacity Inv-loop μ-loop
-mul-capacity c = omega arith
-
 loop-holds : tie.Need-loop-holds Inv-loop μ-loop
 loop-holds c =
     let args = c .before .before .args in
     let most = accepted (args .head) (args .storage .now) (c .before .before .pre) .most in
     (omega arith, most, omega arith, blocks-first _ _, reach-first _ _)
 
-mul-loop : tie.Need-mul-loop Inv-loop μ-loop
-mul-loop c = omega arith
-
 block-audit-requires : tie.Need-block-audit-requires Inv-loop μ-loop
 block-audit-requires c κs = (c .before .before .before .before .pre, omega arith)
-
-enum-known-more : tie.Need-enum-known-more Inv-loop μ-loop
-enum-known-more c = search needs
-
-enum-told : tie.Need-enum-told Inv-loop μ-loop
-enum-told c = search needs
 
 returns : tie.Need-returns Inv-loop μ-loop
 returns c = unsound (blocks-stop _ _ (c .before .before .before .before .loop .block) (omega arith) (c .before .before .block-audit .ensures) (c .enum-told .given .1))
@@ -60,12 +45,6 @@ add-population c =
       reach-most (args .head .words) (plain (args .head .words) (args .storage .now)) (c .before .before .before .before .before .loop .block),
       block-most (args .head .words) (plain (args .head .words) (args .storage .now)) (c .before .before .before .before .before .loop .block),
     )
-
-add-block : tie.Need-add-block Inv-loop μ-loop
-add-block c = omega arith
-
-loop-less : tie.Need-loop-less Inv-loop μ-loop
-loop-less c = omega arith
 
 loop-again : tie.Need-loop-again Inv-loop μ-loop
 loop-again c =
@@ -89,16 +68,16 @@ blocks-audit-spec =
     (tie.spec
     Inv-loop
     μ-loop
-    cast-capacity
-    mul-capacity
+    (λ c. omega arith)
+    (λ c. omega arith)
     loop-holds
-    mul-loop
+    (λ c. omega arith)
     block-audit-requires
-    enum-known-more
-    enum-told
+    (λ c. search needs)
+    (λ c. search needs)
     returns
     add-population
-    add-block
-    loop-less
+    (λ c. omega arith)
+    (λ c. omega arith)
     loop-again
     returns-2)

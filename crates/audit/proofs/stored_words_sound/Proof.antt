@@ -16,9 +16,6 @@ abbrev μ-loop : tie.MeasureT-loop
 loop-holds : tie.Need-loop-holds Inv-loop μ-loop
 loop-holds c = walk-first _ _ _ (c .fits .explicit .fits)
 
-mul-word : tie.Need-mul-word Inv-loop μ-loop
-mul-word c = omega arith
-
 cast-word : tie.Need-cast-word Inv-loop μ-loop
 cast-word c = omega (arith, trailing-le 64 (c .before .loop .explicit))
 
@@ -37,9 +34,6 @@ returns c = walk-zero _ _ _ _ (c .before .before .before .loop .inv) (c .before 
 returns-2 : tie.Need-returns-2 Inv-loop μ-loop
 returns-2 c = walk-ones _ _ _ _ (c .before .before .before .before .loop .inv) (c .before .before .before .loop-test .taken) (c .if2 .taken)
 
-sub-explicit : tie.Need-sub-explicit Inv-loop μ-loop
-sub-explicit c = omega arith
-
 loop-less : tie.Need-loop-less Inv-loop μ-loop
 loop-less c = drop-lowest-lt 64 (c .before .before .before .before .loop .explicit) (c .before .before .before .loop-test .taken) (c .before .before .before .before .loop .inv .fits)
 
@@ -56,14 +50,14 @@ stored-words-sound-spec =
     Inv-loop
     μ-loop
     loop-holds
-    mul-word
+    (λ c. omega arith)
     cast-word
     add-word
     mul-word-2
     shared-slice-read-word
     returns
     returns-2
-    sub-explicit
+    (λ c. omega arith)
     loop-less
     loop-again
     returns-3)

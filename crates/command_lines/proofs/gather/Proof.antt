@@ -17,23 +17,11 @@ abbrev μ-loop : tie.MeasureT-loop
 loop-holds : tie.Need-loop-holds Inv-loop μ-loop
 loop-holds c = rest-start _ _ _ _
 
-shared-slice-read-b : tie.Need-shared-slice-read-b Inv-loop μ-loop
-shared-slice-read-b c = omega arith
-
-add-at : tie.Need-add-at Inv-loop μ-loop
-add-at c = omega arith
-
 same-length : tie.Need-same-length Inv-loop μ-loop
 same-length c = c .before .before .before .loop .inv .size
 
 returns : tie.Need-returns Inv-loop μ-loop
 returns c = rest-newline (c .before .before .before .loop .inv) (c .before .before .loop-test .taken) (c .if1 .taken)
-
-keep-requires : tie.Need-keep-requires Inv-loop μ-loop
-keep-requires c κs = search needs
-
-loop-less : tie.Need-loop-less Inv-loop μ-loop
-loop-less c = omega arith
 
 loop-again : tie.Need-loop-again Inv-loop μ-loop
 loop-again c = rw (← c .before .before .keep .ensures .0, ← c .before .before .keep .ensures .1) at (rest-more (c .before .before .before .before .before .before .before .loop .inv) (c .before .before .before .before .before .before .loop-test .taken) (c .before .before .before .before .if1 .left))
@@ -51,12 +39,12 @@ gather-spec =
     Inv-loop
     μ-loop
     loop-holds
-    shared-slice-read-b
-    add-at
+    (λ c. omega arith)
+    (λ c. omega arith)
     same-length
     returns
-    keep-requires
-    loop-less
+    (λ c κs. search needs)
+    (λ c. omega arith)
     loop-again
     same-length-2
     returns-2)

@@ -27,12 +27,6 @@ abbrev μ-loop : tie.MeasureT-loop
 loop-holds : tie.Need-loop-holds Inv-loop μ-loop
 loop-holds c = (omega arith, omega arith, rw sub-self (lit< tt), ahead-none _ _)
 
-shared-slice-read-b : tie.Need-shared-slice-read-b Inv-loop μ-loop
-shared-slice-read-b c = omega arith
-
-field-of-requires : tie.Need-field-of-requires Inv-loop μ-loop
-field-of-requires c κs = search needs
-
 returns : tie.Need-returns Inv-loop μ-loop
 returns c =
     let i = c .before .before .before .before .loop .inv in
@@ -44,26 +38,14 @@ returns-2 c = sym (ahead-low _ _ _ _ (c .before .before .before .loop-test .take
 returns-3 : tie.Need-returns-3 Inv-loop μ-loop
 returns-3 c = sym (ahead-high _ _ _ _ (c .before .before .before .before .loop-test .taken) (c .if3 .taken)) ∙ c .before .before .before .before .before .loop .inv .3
 
-sub-if4 : tie.Need-sub-if4 Inv-loop μ-loop
-sub-if4 c = omega arith
-
 returns-4 : tie.Need-returns-4 Inv-loop μ-loop
 returns-4 c = sym (ahead-ten _ _ _ _ (c .before .before .before .before .before .loop-test .taken) (c .before .before .before .if1 .left) (c .if4 .taken)) ∙ c .before .before .before .before .before .before .loop .inv .3
 
 mul-value : tie.Need-mul-value Inv-loop μ-loop
 mul-value c = omega (arith, below-ten _ _ (c .before .before .before .before .before .before .loop .inv .2) (c .before .before .before .before .before .before .loop .inv .1))
 
-cast-value : tie.Need-cast-value Inv-loop μ-loop
-cast-value c = omega arith
-
 add-value : tie.Need-add-value Inv-loop μ-loop
 add-value c = omega (arith, below-ten _ _ (c .before .before .before .before .before .before .loop .inv .2) (c .before .before .before .before .before .before .loop .inv .1))
-
-add-at : tie.Need-add-at Inv-loop μ-loop
-add-at c = omega arith
-
-loop-less : tie.Need-loop-less Inv-loop μ-loop
-loop-less c = omega arith
 
 loop-again : tie.Need-loop-again Inv-loop μ-loop
 loop-again c =
@@ -75,9 +57,6 @@ loop-again c =
       below-digit _ _ from at (i .0) (i .2) (omega arith),
       sym (ahead-digit _ from at _ (i .0) (c .before .before .before .before .before .loop-test .taken) (c .before .before .if2 .left) (c .before .if3 .left)) ∙ i .3,
     )
-
-field-of-requires-2 : tie.Need-field-of-requires-2 Inv-loop μ-loop
-field-of-requires-2 c κs = search needs
 
 returns-5 : tie.Need-returns-5 Inv-loop μ-loop
 returns-5 c =
@@ -91,18 +70,18 @@ number-spec =
     Inv-loop
     μ-loop
     loop-holds
-    shared-slice-read-b
-    field-of-requires
+    (λ c. omega arith)
+    (λ c κs. search needs)
     returns
     returns-2
     returns-3
-    sub-if4
+    (λ c. omega arith)
     returns-4
     mul-value
-    cast-value
+    (λ c. omega arith)
     add-value
-    add-at
-    loop-less
+    (λ c. omega arith)
+    (λ c. omega arith)
     loop-again
-    field-of-requires-2
+    (λ c κs. search needs)
     returns-5)

@@ -21,20 +21,8 @@ loop-holds c = refl
 returns : tie.Need-returns Inv-loop μ-loop
 returns c = sym (starts-short _ _ _ (c .before .loop-test .taken) (c .if1 .taken)) ∙ c .before .before .loop .inv
 
-shared-slice-read-if2 : tie.Need-shared-slice-read-if2 Inv-loop μ-loop
-shared-slice-read-if2 c = omega arith
-
-shared-slice-read-if2-2 : tie.Need-shared-slice-read-if2-2 Inv-loop μ-loop
-shared-slice-read-if2-2 c = omega arith
-
 returns-2 : tie.Need-returns-2 Inv-loop μ-loop
 returns-2 c = sym (starts-differ _ _ _ (c .before .before .before .before .loop-test .taken) (omega arith) (c .if2 .taken)) ∙ c .before .before .before .before .before .loop .inv
-
-add-i : tie.Need-add-i Inv-loop μ-loop
-add-i c = omega arith
-
-loop-less : tie.Need-loop-less Inv-loop μ-loop
-loop-less c = omega arith
 
 loop-again : tie.Need-loop-again Inv-loop μ-loop
 loop-again c = sym (starts-next _ _ _ (c .before .before .before .before .loop-test .taken) (c .before .before .before .if1 .left) (c .if2 .left)) ∙ c .before .before .before .before .before .loop .inv
@@ -50,10 +38,10 @@ starts-with-spec =
     μ-loop
     loop-holds
     returns
-    shared-slice-read-if2
-    shared-slice-read-if2-2
+    (λ c. omega arith)
+    (λ c. omega arith)
     returns-2
-    add-i
-    loop-less
+    (λ c. omega arith)
+    (λ c. omega arith)
     loop-again
     returns-3)

@@ -25,51 +25,12 @@ loop-holds : tie.Need-loop-holds Inv-loop μ-loop
 loop-holds c =
     (search needs, search needs, search needs, search needs, search needs, search needs, search needs, search needs, search needs, chained-none _ _ _)
 
-shared-slice-read-one-call : tie.Need-shared-slice-read-one-call Inv-loop μ-loop
-shared-slice-read-one-call c = search needs
-
-mul-one-call : tie.Need-mul-one-call Inv-loop μ-loop
-mul-one-call c = search needs
-
-shared-slice-read-one-call-2 : tie.Need-shared-slice-read-one-call-2 Inv-loop μ-loop
-shared-slice-read-one-call-2 c = search needs
-
-mul-one-call-2 : tie.Need-mul-one-call-2 Inv-loop μ-loop
-mul-one-call-2 c = search needs
-
-shared-slice-read-one-call-3 : tie.Need-shared-slice-read-one-call-3 Inv-loop μ-loop
-shared-slice-read-one-call-3 c = search needs
-
-one-call-requires : tie.Need-one-call-requires Inv-loop μ-loop
-one-call-requires c κs = search needs
-
-code-requires : tie.Need-code-requires Inv-loop μ-loop
-code-requires c κs = search needs
-
 mul-answers : tie.Need-mul-answers Inv-loop μ-loop
 mul-answers c = omega (arith, c .before .before .before .before .before .before .before .before .before .before .before .before .loop .inv .0)
-
-slice-write-answers : tie.Need-slice-write-answers Inv-loop μ-loop
-slice-write-answers c = search needs
-
-add-i : tie.Need-add-i Inv-loop μ-loop
-add-i c = search needs
-
-loop-less : tie.Need-loop-less Inv-loop μ-loop
-loop-less c = search needs
 
 loop-again : tie.Need-loop-again Inv-loop μ-loop
 loop-again c =
     (c .before .before .before .before .before .before .before .before .before .before .before .before .before .loop .inv .0, search needs, search needs, search needs, search needs, search needs, search needs, search needs, search needs, chained-more _ _ _ _ _ _ _ _ _ (c .before .before .before .before .before .before .before .before .before .before .before .before .before .loop .inv .9) (c .before .before .before .before .before .before .one-call .ensures) (c .before .code .ensures) (search needs))
-
-same-length : tie.Need-same-length Inv-loop μ-loop
-same-length c = search needs
-
-same-length-2 : tie.Need-same-length-2 Inv-loop μ-loop
-same-length-2 c = search needs
-
-same-length-3 : tie.Need-same-length-3 Inv-loop μ-loop
-same-length-3 c = search needs
 
 returns : tie.Need-returns Inv-loop μ-loop
 returns c = chained-at _ _ _ _ _ _ _ (omega arith) (c .before .loop .inv .9)
@@ -81,19 +42,19 @@ run-spec =
     Inv-loop
     μ-loop
     loop-holds
-    shared-slice-read-one-call
-    mul-one-call
-    shared-slice-read-one-call-2
-    mul-one-call-2
-    shared-slice-read-one-call-3
-    one-call-requires
-    code-requires
+    (λ c. search needs)
+    (λ c. search needs)
+    (λ c. search needs)
+    (λ c. search needs)
+    (λ c. search needs)
+    (λ c κs. search needs)
+    (λ c κs. search needs)
     mul-answers
-    slice-write-answers
-    add-i
-    loop-less
+    (λ c. search needs)
+    (λ c. search needs)
+    (λ c. search needs)
     loop-again
-    same-length
-    same-length-2
-    same-length-3
+    (λ c. search needs)
+    (λ c. search needs)
+    (λ c. search needs)
     returns)

@@ -23,29 +23,8 @@ abbrev μ-loop : tie.MeasureT-loop
 returns : tie.Need-returns Inv-loop μ-loop
 returns c = sym (runs-good (c .before .before .args .file .now) (omega arith))
 
-be16-requires : tie.Need-be16-requires Inv-loop μ-loop
-be16-requires c κs = search needs
-
-cast-capacity : tie.Need-cast-capacity Inv-loop μ-loop
-cast-capacity c = search needs
-
-mul-capacity : tie.Need-mul-capacity Inv-loop μ-loop
-mul-capacity c = search needs
-
 loop-holds : tie.Need-loop-holds Inv-loop μ-loop
 loop-holds c = (omega arith, omega arith, omega arith, ap (λ (w : ℕ). 64 * w) (c .be16 .ensures), reached-start (c .before .before .before .args .file .now))
-
-sub-loop : tie.Need-sub-loop Inv-loop μ-loop
-sub-loop c = search needs
-
-be32-requires : tie.Need-be32-requires Inv-loop μ-loop
-be32-requires c κs = search needs
-
-add-be32 : tie.Need-add-be32 Inv-loop μ-loop
-add-be32 c = search needs
-
-be32-requires-2 : tie.Need-be32-requires-2 Inv-loop μ-loop
-be32-requires-2 c κs = search needs
 
 keeps-rule-requires : tie.Need-keeps-rule-requires Inv-loop μ-loop
 keeps-rule-requires c κs = tt
@@ -66,15 +45,6 @@ add-low c =
     let e = sym (c .before .keeps-rule .ensures) ∙ not-false _ (c .if2 .left) in
     let h = ruled-yes (b .loop .low) (64 * b .before .be16 .result) r e in
     omega arith
-
-add-at : tie.Need-add-at Inv-loop μ-loop
-add-at c = search needs
-
-add-index : tie.Need-add-index Inv-loop μ-loop
-add-index c = search needs
-
-loop-less : tie.Need-loop-less Inv-loop μ-loop
-loop-less c = omega arith
 
 loop-again : tie.Need-loop-again Inv-loop μ-loop
 loop-again c =
@@ -99,19 +69,19 @@ check-runs-spec =
     Inv-loop
     μ-loop
     returns
-    be16-requires
-    cast-capacity
-    mul-capacity
+    (λ c κs. search needs)
+    (λ c. search needs)
+    (λ c. search needs)
     loop-holds
-    sub-loop
-    be32-requires
-    add-be32
-    be32-requires-2
+    (λ c. search needs)
+    (λ c κs. search needs)
+    (λ c. search needs)
+    (λ c κs. search needs)
     keeps-rule-requires
     returns-2
     add-low
-    add-at
-    add-index
-    loop-less
+    (λ c. search needs)
+    (λ c. search needs)
+    (λ c. omega arith)
     loop-again
     returns-3)

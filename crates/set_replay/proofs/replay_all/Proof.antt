@@ -12,20 +12,8 @@ Inv-loop storage₀ now₀ turns₀ more₀ storage now turns more = length stor
 abbrev μ-loop : tie.MeasureT-loop
 μ-loop storage₀ now₀ turns₀ more₀ storage now turns more = turns
 
-blank-requires : tie.Need-blank-requires Inv-loop μ-loop
-blank-requires c κs = search needs
-
 loop-holds : tie.Need-loop-holds Inv-loop μ-loop
 loop-holds c = refl
-
-read-some-requires : tie.Need-read-some-requires Inv-loop μ-loop
-read-some-requires c κs = search needs
-
-sub-turns : tie.Need-sub-turns Inv-loop μ-loop
-sub-turns c = search needs
-
-loop-less : tie.Need-loop-less Inv-loop μ-loop
-loop-less c = search needs
 
 loop-again : tie.Need-loop-again Inv-loop μ-loop
 loop-again c = c .before .before .before .read-some .kept .1 .0 ∙ c .before .before .before .before .before .before .before .loop .inv
@@ -33,14 +21,8 @@ loop-again c = c .before .before .before .read-some .kept .1 .0 ∙ c .before .b
 same-length : tie.Need-same-length Inv-loop μ-loop
 same-length c = c .before .before .loop .inv
 
-returns : tie.Need-returns Inv-loop μ-loop
-returns c = search needs
-
 same-length-2 : tie.Need-same-length-2 Inv-loop μ-loop
 same-length-2 c = c .before .loop .inv
-
-returns-2 : tie.Need-returns-2 Inv-loop μ-loop
-returns-2 c = search needs
 
 pub replay-all-spec : {M : Type 1} → statement M
 replay-all-spec =
@@ -48,13 +30,13 @@ replay-all-spec =
     (tie.spec
     Inv-loop
     μ-loop
-    blank-requires
+    (λ c κs. search needs)
     loop-holds
-    read-some-requires
-    sub-turns
-    loop-less
+    (λ c κs. search needs)
+    (λ c. search needs)
+    (λ c. search needs)
     loop-again
     same-length
-    returns
+    (λ c. search needs)
     same-length-2
-    returns-2)
+    (λ c. search needs))

@@ -16,26 +16,11 @@ abbrev μ-loop : tie.MeasureT-loop
 loop-holds : tie.Need-loop-holds Inv-loop μ-loop
 loop-holds c = refl
 
-shared-slice-read-step : tie.Need-shared-slice-read-step Inv-loop μ-loop
-shared-slice-read-step c = search needs
-
-step-requires : tie.Need-step-requires Inv-loop μ-loop
-step-requires c κs = search needs
-
-add-at : tie.Need-add-at Inv-loop μ-loop
-add-at c = search needs
-
-loop-less : tie.Need-loop-less Inv-loop μ-loop
-loop-less c = search needs
-
 loop-again : tie.Need-loop-again Inv-loop μ-loop
 loop-again c = c .before .before .step .kept .1 .0 ∙ c .before .before .before .before .before .before .loop .inv
 
 same-length : tie.Need-same-length Inv-loop μ-loop
 same-length c = c .before .loop .inv
-
-returns : tie.Need-returns Inv-loop μ-loop
-returns c = search needs
 
 pub steps-spec : {M : Type 1} → statement M
 steps-spec =
@@ -44,10 +29,10 @@ steps-spec =
     Inv-loop
     μ-loop
     loop-holds
-    shared-slice-read-step
-    step-requires
-    add-at
-    loop-less
+    (λ c. search needs)
+    (λ c κs. search needs)
+    (λ c. search needs)
+    (λ c. search needs)
     loop-again
     same-length
-    returns)
+    (λ c. search needs))

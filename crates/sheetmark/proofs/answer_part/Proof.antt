@@ -28,9 +28,6 @@ abbrev μ-loop : tie.MeasureT-loop
 loop-holds : tie.Need-loop-holds Inv-loop μ-loop
 loop-holds c = (refl, refl, refl, refl, c .before .before .before .before .before .pre .0, omega arith, omega arith, λ l h. so-far-none _ _ _ _ _ _ _ refl h)
 
-gather-requires : tie.Need-gather-requires Inv-loop μ-loop
-gather-requires c κs = search needs
-
 slice-reshare-prefix-answer-line : tie.Need-slice-reshare-prefix-answer-line Inv-loop μ-loop
 slice-reshare-prefix-answer-line c =
     let g = c .before .before .before .gather in
@@ -113,7 +110,7 @@ answer-part-spec =
     Inv-loop
     μ-loop
     loop-holds
-    gather-requires
+    (λ c κs. search needs)
     slice-reshare-prefix-answer-line
     slice-aggregate-answer-line
     answer-line-requires

@@ -20,23 +20,8 @@ Inv-loop input₀ line₀ out₀ storage₀ journal₀ session₀ reads₀ input
 abbrev μ-loop : tie.MeasureT-loop
 μ-loop input₀ line₀ out₀ storage₀ journal₀ session₀ reads₀ input line out storage journal session reads = 2 ^ 64 - reads
 
-begin-requires : tie.Need-begin-requires Inv-loop μ-loop
-begin-requires c κs = search needs
-
 loop-holds : tie.Need-loop-holds Inv-loop μ-loop
 loop-holds c = (refl, refl, refl, refl, refl, omega (arith, c .begin .ensures .1), read-none _ _ _ (c .begin .ensures .1))
-
-read-requires : tie.Need-read-requires Inv-loop μ-loop
-read-requires c κs = search needs
-
-count-requires : tie.Need-count-requires Inv-loop μ-loop
-count-requires c κs = search needs
-
-slice-reshare-prefix-answer-read : tie.Need-slice-reshare-prefix-answer-read Inv-loop μ-loop
-slice-reshare-prefix-answer-read c = search needs
-
-slice-aggregate-answer-read : tie.Need-slice-aggregate-answer-read Inv-loop μ-loop
-slice-aggregate-answer-read c = search needs
 
 answer-read-requires : tie.Need-answer-read-requires Inv-loop μ-loop
 answer-read-requires c κs =
@@ -53,32 +38,11 @@ slice-reshare-prefix-write-all c = search needs
 slice-aggregate-write-all : tie.Need-slice-aggregate-write-all Inv-loop μ-loop
 slice-aggregate-write-all c = sym (length-take-le _ _ (slice-reshare-prefix-write-all (c .before)))
 
-write-all-requires : tie.Need-write-all-requires Inv-loop μ-loop
-write-all-requires c κs = search needs
-
-same-length : tie.Need-same-length Inv-loop μ-loop
-same-length c = search needs
-
-same-length-2 : tie.Need-same-length-2 Inv-loop μ-loop
-same-length-2 c = search needs
-
-same-length-3 : tie.Need-same-length-3 Inv-loop μ-loop
-same-length-3 c = search needs
-
-same-length-4 : tie.Need-same-length-4 Inv-loop μ-loop
-same-length-4 c = search needs
-
-same-length-5 : tie.Need-same-length-5 Inv-loop μ-loop
-same-length-5 c = search needs
-
 returns : tie.Need-returns Inv-loop μ-loop
 returns c =
     served-whole _ _ _ _ (c .before .before .before .before .before .before .before .before .before .before .before .before .before .before .before .before .before .before .before .before .before .before .before .before .before .begin .ensures .0) _ _ _
     (read-end _ _ _ _ _ _ _ _ _ _ (c .before .before .before .before .before .before .before .before .before .before .before .before .before .before .before .before .before .before .before .before .before .before .before .before .loop .inv .6) (c .before .before .before .before .before .before .before .before .before .before .before .answer-read .ensures .0)
     (sym (c .before .before .before .before .before .before .before .before .before .before .before .before .before .before .before .before .before .count .ensures .0 .1) ∙ c .if1 .taken))
-
-add-reads : tie.Need-add-reads Inv-loop μ-loop
-add-reads c = search needs
 
 loop-less : tie.Need-loop-less Inv-loop μ-loop
 loop-less c = omega (arith, c .before .before .before .before .before .before .before .before .before .before .before .before .before .before .before .before .before .before .before .before .before .before .before .loop-test .taken)
@@ -96,21 +60,6 @@ loop-again c =
       read-more _ _ _ _ _ _ _ _ _ _ (i .6) (o .ensures .0) (omega (arith, c .before .before .before .before .before .before .before .before .before .before .before .before .before .before .before .before .before .count .ensures .0 .1, c .if1 .left)),
     )
 
-same-length-6 : tie.Need-same-length-6 Inv-loop μ-loop
-same-length-6 c = search needs
-
-same-length-7 : tie.Need-same-length-7 Inv-loop μ-loop
-same-length-7 c = search needs
-
-same-length-8 : tie.Need-same-length-8 Inv-loop μ-loop
-same-length-8 c = search needs
-
-same-length-9 : tie.Need-same-length-9 Inv-loop μ-loop
-same-length-9 c = search needs
-
-same-length-10 : tie.Need-same-length-10 Inv-loop μ-loop
-same-length-10 c = search needs
-
 returns-2 : tie.Need-returns-2 Inv-loop μ-loop
 returns-2 c = served-part _ _ _ _ (c .before .before .begin .ensures .0) _ _ _ _ (omega (arith, c .loop-test .left)) (c .before .loop .inv .6)
 
@@ -120,28 +69,28 @@ serve-spec =
     (tie.spec
     Inv-loop
     μ-loop
-    begin-requires
+    (λ c κs. search needs)
     loop-holds
-    read-requires
-    count-requires
-    slice-reshare-prefix-answer-read
-    slice-aggregate-answer-read
+    (λ c κs. search needs)
+    (λ c κs. search needs)
+    (λ c. search needs)
+    (λ c. search needs)
     answer-read-requires
     slice-reshare-prefix-write-all
     slice-aggregate-write-all
-    write-all-requires
-    same-length
-    same-length-2
-    same-length-3
-    same-length-4
-    same-length-5
+    (λ c κs. search needs)
+    (λ c. search needs)
+    (λ c. search needs)
+    (λ c. search needs)
+    (λ c. search needs)
+    (λ c. search needs)
     returns
-    add-reads
+    (λ c. search needs)
     loop-less
     loop-again
-    same-length-6
-    same-length-7
-    same-length-8
-    same-length-9
-    same-length-10
+    (λ c. search needs)
+    (λ c. search needs)
+    (λ c. search needs)
+    (λ c. search needs)
+    (λ c. search needs)
     returns-2)

@@ -23,39 +23,12 @@ abbrev μ-loop : tie.MeasureT-loop
 loop-holds : tie.Need-loop-holds Inv-loop μ-loop
 loop-holds c = (omega arith, refl, file-none _ _ _)
 
-cast-run-at : tie.Need-cast-run-at Inv-loop μ-loop
-cast-run-at c = search needs
-
-run-at-requires : tie.Need-run-at-requires Inv-loop μ-loop
-run-at-requires c κs = search needs
-
-enum-known-start : tie.Need-enum-known-start Inv-loop μ-loop
-enum-known-start c = search needs
-
-enum-told : tie.Need-enum-told Inv-loop μ-loop
-enum-told c = search needs
-
 same-length : tie.Need-same-length Inv-loop μ-loop
 same-length c = c .before .before .before .before .loop .inv .1
 
 returns : tie.Need-returns Inv-loop μ-loop
 returns c =
     opens-short _ _ _ _ _ _ _ (c .before .before .before .before .loop .inv .2) (found-none _ _ (sym (ap ofFoundRun (c .enum-told .given .1)) ∙ c .before .before .run-at .ensures)) (c .before .before .before .loop-test .taken)
-
-cast-assign : tie.Need-cast-assign Inv-loop μ-loop
-cast-assign c = search needs
-
-cast-assign-2 : tie.Need-cast-assign-2 Inv-loop μ-loop
-cast-assign-2 c = search needs
-
-assign-requires : tie.Need-assign-requires Inv-loop μ-loop
-assign-requires c κs = search needs
-
-add-i : tie.Need-add-i Inv-loop μ-loop
-add-i c = search needs
-
-loop-less : tie.Need-loop-less Inv-loop μ-loop
-loop-less c = omega arith
 
 loop-again : tie.Need-loop-again Inv-loop μ-loop
 loop-again c =
@@ -79,17 +52,17 @@ assign-file-spec =
     Inv-loop
     μ-loop
     loop-holds
-    cast-run-at
-    run-at-requires
-    enum-known-start
-    enum-told
+    (λ c. search needs)
+    (λ c κs. search needs)
+    (λ c. search needs)
+    (λ c. search needs)
     same-length
     returns
-    cast-assign
-    cast-assign-2
-    assign-requires
-    add-i
-    loop-less
+    (λ c. search needs)
+    (λ c. search needs)
+    (λ c κs. search needs)
+    (λ c. search needs)
+    (λ c. omega arith)
     loop-again
     same-length-2
     returns-2)

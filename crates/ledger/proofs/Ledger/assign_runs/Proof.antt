@@ -20,9 +20,6 @@ abbrev μ-loop : tie.MeasureT-loop
 loop-holds : tie.Need-loop-holds Inv-loop μ-loop
 loop-holds c = (omega arith, omega arith, refl, assigns-none _ _ _)
 
-mul-start : tie.Need-mul-start Inv-loop μ-loop
-mul-start c = search needs
-
 shared-slice-read-start : tie.Need-shared-slice-read-start Inv-loop μ-loop
 shared-slice-read-start c = omega (arith, c .before .before .before .before .before .pre .0)
 
@@ -32,32 +29,17 @@ cast-start c = omega (arith, c .shared-slice-known2 .given (c .before .before .l
 add-end : tie.Need-add-end Inv-loop μ-loop
 add-end c = omega (arith, c .before .before .before .before .before .pre .1)
 
-mul-end : tie.Need-mul-end Inv-loop μ-loop
-mul-end c = search needs
-
 shared-slice-read-end : tie.Need-shared-slice-read-end Inv-loop μ-loop
 shared-slice-read-end c = omega (arith, c .before .before .before .before .before .before .pre .0)
 
 cast-end : tie.Need-cast-end Inv-loop μ-loop
 cast-end c = omega (arith, c .shared-slice-known3 .given (c .before .before .before .loop .slot + 1))
 
-assign-requires : tie.Need-assign-requires Inv-loop μ-loop
-assign-requires c κs = search needs
-
-count-of-requires : tie.Need-count-of-requires Inv-loop μ-loop
-count-of-requires c κs = search needs
-
-wrapping-add-u32-requires : tie.Need-wrapping-add-u32-requires Inv-loop μ-loop
-wrapping-add-u32-requires c κs = search needs
-
 add-slot : tie.Need-add-slot Inv-loop μ-loop
 add-slot c = omega (arith, c .before .before .before .before .before .before .before .before .before .before .before .before .before .pre .1)
 
 add-i : tie.Need-add-i Inv-loop μ-loop
 add-i c = omega (arith, c .before .before .before .before .before .before .before .before .before .before .before .before .before .pre .1)
-
-loop-less : tie.Need-loop-less Inv-loop μ-loop
-loop-less c = omega arith
 
 loop-again : tie.Need-loop-again Inv-loop μ-loop
 loop-again c =
@@ -80,19 +62,19 @@ assign-runs-spec =
     Inv-loop
     μ-loop
     loop-holds
-    mul-start
+    (λ c. search needs)
     shared-slice-read-start
     cast-start
     add-end
-    mul-end
+    (λ c. search needs)
     shared-slice-read-end
     cast-end
-    assign-requires
-    count-of-requires
-    wrapping-add-u32-requires
+    (λ c κs. search needs)
+    (λ c κs. search needs)
+    (λ c κs. search needs)
     add-slot
     add-i
-    loop-less
+    (λ c. omega arith)
     loop-again
     same-length
     returns)

@@ -18,59 +18,20 @@ abbrev μ-loop : tie.MeasureT-loop
 loop-holds : tie.Need-loop-holds Inv-loop μ-loop
 loop-holds c = (omega arith, omega arith, writing-start _ _ _ _ _ _ _)
 
-find-requires : tie.Need-find-requires Inv-loop μ-loop
-find-requires c κs = search needs
-
-same-length : tie.Need-same-length Inv-loop μ-loop
-same-length c = search needs
-
 returns : tie.Need-returns Inv-loop μ-loop
 returns c =
     let l = c .before .before .before .loop in
     writing-done _ _ _ _ _ _ _ _ _ _ _ _ (c .before .find .ensures) (omega arith) (l .inv .0) (l .inv .2)
-
-find-requires-2 : tie.Need-find-requires-2 Inv-loop μ-loop
-find-requires-2 c κs = search needs
-
-low-u32-requires : tie.Need-low-u32-requires Inv-loop μ-loop
-low-u32-requires c κs = search needs
-
-mul-journal : tie.Need-mul-journal Inv-loop μ-loop
-mul-journal c = search needs
-
-slice-write-journal : tie.Need-slice-write-journal Inv-loop μ-loop
-slice-write-journal c = search needs
-
-low-u32-requires-2 : tie.Need-low-u32-requires-2 Inv-loop μ-loop
-low-u32-requires-2 c κs = search needs
-
-add-journal : tie.Need-add-journal Inv-loop μ-loop
-add-journal c = search needs
-
-mul-journal-2 : tie.Need-mul-journal-2 Inv-loop μ-loop
-mul-journal-2 c = search needs
 
 slice-write-journal-2 : tie.Need-slice-write-journal-2 Inv-loop μ-loop
 slice-write-journal-2 c =
     let l = c .before .before .before .before .before .before .loop in
     below-set _ (l .journal) (l .slot + 1) (l .slot) (c .before .low-u32 .result) (omega arith)
 
-add-slot : tie.Need-add-slot Inv-loop μ-loop
-add-slot c = search needs
-
-add-runs : tie.Need-add-runs Inv-loop μ-loop
-add-runs c = search needs
-
-loop-less : tie.Need-loop-less Inv-loop μ-loop
-loop-less c = omega arith
-
 loop-again : tie.Need-loop-again Inv-loop μ-loop
 loop-again c =
     let l = c .before .before .before .before .before .before .loop in
     (omega arith, omega arith, writing-next _ _ _ _ _ _ _ _ _ _ _ _ _ _ _ (l .inv .1) (omega arith) (omega arith) (c .before .before .before .before .find .ensures) (c .before .before .find2 .ensures) (c .before .low-u32 .ensures) (c .low-u322 .ensures) (l .inv .2))
-
-same-length-2 : tie.Need-same-length-2 Inv-loop μ-loop
-same-length-2 c = search needs
 
 returns-2 : tie.Need-returns-2 Inv-loop μ-loop
 returns-2 c = writing-most _ _ _ _ _ _ _ _ _ _ _ (c .before .loop .inv .0) (omega arith) (c .before .loop .inv .2)
@@ -82,20 +43,20 @@ write-runs-spec =
     Inv-loop
     μ-loop
     loop-holds
-    find-requires
-    same-length
+    (λ c κs. search needs)
+    (λ c. search needs)
     returns
-    find-requires-2
-    low-u32-requires
-    mul-journal
-    slice-write-journal
-    low-u32-requires-2
-    add-journal
-    mul-journal-2
+    (λ c κs. search needs)
+    (λ c κs. search needs)
+    (λ c. search needs)
+    (λ c. search needs)
+    (λ c κs. search needs)
+    (λ c. search needs)
+    (λ c. search needs)
     slice-write-journal-2
-    add-slot
-    add-runs
-    loop-less
+    (λ c. search needs)
+    (λ c. search needs)
+    (λ c. omega arith)
     loop-again
-    same-length-2
+    (λ c. search needs)
     returns-2)

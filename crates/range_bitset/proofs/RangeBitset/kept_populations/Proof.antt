@@ -43,12 +43,6 @@ shared-slice-read-low-u32 c =
     let p = c .before .before .before .before .before .pre in
     omega (arith, p .0 .long, c .before .population-slot .ensures, lowest-block _ _ (p .0) (c .before .before .before .loop .mixed) (c .before .before .loop-test .taken) (c .before .before .before .loop .inv .1))
 
-low-u32-requires : tie.Need-low-u32-requires Inv-loop μ-loop
-low-u32-requires c κs = search needs
-
-wrapping-add-u32-requires : tie.Need-wrapping-add-u32-requires Inv-loop μ-loop
-wrapping-add-u32-requires c κs = search needs
-
 sub-mixed : tie.Need-sub-mixed Inv-loop μ-loop
 sub-mixed c = omega (arith, c .before .before .before .before .loop-test .taken)
 
@@ -80,8 +74,8 @@ kept-populations-spec =
     population-slot-requires
     mul-low-u32
     shared-slice-read-low-u32
-    low-u32-requires
-    wrapping-add-u32-requires
+    (λ c κs. search needs)
+    (λ c κs. search needs)
     sub-mixed
     loop-less
     loop-again

@@ -43,9 +43,6 @@ add-population c =
       c .before .before .loop .inv .0,
     )
 
-sub-explicit : tie.Need-sub-explicit Inv-loop μ-loop
-sub-explicit c = omega arith
-
 loop-less : tie.Need-loop-less Inv-loop μ-loop
 loop-less c = drop-lowest-lt 64 (c .before .before .loop .explicit) (c .before .loop-test .taken) (lt-of-lt-of-le (c .before .before .loop .inv .1) (pow-mono (c .before .before .before .pre .0)))
 
@@ -75,7 +72,7 @@ stored-population-spec =
     mul-population
     shared-slice-read-population
     add-population
-    sub-explicit
+    (λ c. omega arith)
     loop-less
     loop-again
     returns)
