@@ -1,18 +1,6 @@
 -- What the audit tells of one block: its masks, its stored words, its population. One law for each return of the functions
 -- that look at a block. Assumes nothing.
-use mathlib.Core.Path.{_≡_, refl, ap, sym, _∙_, ap₂}
-use mathlib.Core.Logic.{_≢_}
-use mathlib.Core.Bool.{Bool, true, false, not, _&&_, true≢false, false≢true}
-use mathlib.Core.List.{List}
-use Prim.Native.Nat.{ℕ, suc, zero-le, _+_, _*_, _-_, _/_, _%_, _^_, _≤_, _<_}
-use native.Mathlib.Nat.{lt-of-le-of-lt}
-use native.Mathlib.Omega.{arith}
-use lib.Bits.{bitAnd, and-le-l}
-use lib.Count.{ones, trailingZeros}
-use lib.Dec.{eqb, ltb}
-use lib.ListN.{length, getD}
-use lib.Pow.{ones-lt}
-use borrow.Author.Tests.{le-leb, eqb-true, eqb-false, lt-ltb, ltb-true, not-true, not-false}
+use Rattle.audit.proofs.Kit.{_≡_, refl, ap, sym, _∙_, ap₂, _≢_, Bool, true, false, not, _&&_, true≢false, false≢true, List, ℕ, suc, zero-le, _+_, _*_, _-_, _/_, _%_, _^_, _≤_, _<_, lt-of-le-of-lt, arith, bitAnd, and-le-l, ones, trailingZeros, eqb, ltb, length, getD, ones-lt, le-leb, eqb-true, eqb-false, lt-ltb, ltb-true, not-true, not-false}
 use Rattle.positions.specs.Positions.{count}
 use Rattle.positions.proofs.Bools.{and-left, and-right}
 use Rattle.positions.proofs.Counts.{count-none, count-all}

@@ -1,14 +1,6 @@
 -- The returns of the audit over the blocks, over a storage, and of the entry: what each tells, from what the code has there.
 -- Assumes nothing.
-use mathlib.Core.Path.{_≡_, refl, ap, sym, _∙_, subst}
-use mathlib.Core.Logic.{inl, inr}
-use mathlib.Core.Bool.{Bool, true, false, true≢false}
-use mathlib.Core.List.{List}
-use Prim.Native.Nat.{ℕ, _+_, _*_, _/_, _≤_, _<_, min}
-use native.Mathlib.Decide.{decLt}
-use native.Mathlib.Omega.{arith}
-use lib.Dec.{eqb}
-use lib.ListN.{length}
+use Rattle.audit.proofs.Kit.{_≡_, refl, ap, sym, _∙_, subst, inl, inr, Bool, true, false, true≢false, List, ℕ, _+_, _*_, _/_, _≤_, _<_, min, decLt, arith, eqb, length}
 use Rattle.positions.specs.Positions.{Positions, count}
 use Rattle.positions.proofs.Counts.{count-split, count-empty, count-le}
 use Rattle.range_bitset.specs.Layout.{blocks, wordsOf}

@@ -1,12 +1,6 @@
 -- A storage that meets 01's rules holds the set that its words read, and a storage that holds a set meets the rules.
 -- Assumes nothing.
-use mathlib.Core.Path.{_≡_, refl, ap, sym, _∙_, subst, ap₂}
-use mathlib.Core.Bool.{Bool, true, false, not, _&&_, cond, true≢false, false≢true}
-use mathlib.Core.List.{List}
-use Prim.Native.Nat.{ℕ, _+_, _*_, _/_, _%_, _^_, _<_}
-use native.Mathlib.Omega.{arith}
-use lib.Dec.{eqb}
-use borrow.Author.Tests.{eq-eqb, ne-eqb}
+use Rattle.audit.proofs.Kit.{_≡_, refl, ap, sym, _∙_, subst, ap₂, Bool, true, false, not, _&&_, cond, true≢false, false≢true, List, ℕ, _+_, _*_, _/_, _%_, _^_, _<_, arith, eqb, eq-eqb, ne-eqb}
 use Rattle.positions.specs.Positions.{Positions}
 use Rattle.positions.proofs.Counts.{count-same}
 use Rattle.bits.specs.Bit.{bit}

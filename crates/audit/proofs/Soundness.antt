@@ -1,11 +1,6 @@
 -- What 01's rules are worth: head and storage are sound exactly when they represent the set `has` that the masks read; and
 -- a represented set fixes every number that is not stale, and no other. Assumes nothing.
-use mathlib.Core.Path.{_≡_, refl, ap, sym, _∙_, subst, ap₂, fun-ext}
-use mathlib.Core.Bool.{Bool, true, false, not, _&&_, cond}
-use mathlib.Core.List.{List}
-use Prim.Native.Nat.{ℕ, _+_, _*_, _/_, _%_, _<_}
-use native.Mathlib.Omega.{arith}
-use borrow.Author.Tests.{not-true}
+use Rattle.audit.proofs.Kit.{_≡_, refl, ap, sym, _∙_, subst, ap₂, fun-ext, Bool, true, false, not, _&&_, cond, List, ℕ, _+_, _*_, _/_, _%_, _<_, arith, not-true}
 use Rattle.positions.specs.Positions.{Positions, count}
 use Rattle.positions.proofs.Bools.{and-left, and-right}
 use Rattle.positions.proofs.Counts.{count-none, count-same}

@@ -1,8 +1,5 @@
 -- The definitions at numbers. Assumes nothing.
-use mathlib.Core.Path.{_≡_, refl}
-use mathlib.Core.Bool.{true, false}
-use Prim.Native.Nat.{_-_, _^_}
-use lib.Count.{trailingZeros}
+use Rattle.bits.proofs.Kit.{_≡_, refl, true, false, _-_, _^_, trailingZeros}
 use Rattle.positions.specs.Positions.{within, total, sumOver, countFrom, count}
 use Rattle.bits.specs.Bit.{bit, mask}
 

@@ -1,17 +1,5 @@
 -- The counts of a word's bits: `count_ones` is the countFrom of its bits, `trailing_zeros` is the place of its lowest bit, and `n & (n - 1)` clears that bit. Assumes nothing.
-use mathlib.Core.Path.{_≡_, refl, sym, ap, ap₂, _∙_, subst}
-use mathlib.Core.Logic.{_≢_}
-use mathlib.Core.Bool.{Bool, true, false, not, _&&_, and-true, and-self}
-use Prim.Native.Nat.{ℕ, zero, suc, _+_, _-_, _*_, _/_, _%_, _^_, _<_}
-use native.Mathlib.Nat.{le-refl, le-of-suc-le-suc, not-suc-le-zero, mod-lt, div-add-mod', pow-suc, pos-of-ne-zero, lt-irrefl}
-use native.Mathlib.Decide.{decLt}
-use native.Mathlib.Numerals.{one-add}
-use native.Mathlib.Omega.{arith}
-use borrow.Author.Tests.{eq-eqb}
-use lib.Dec.{eqb, eqb·suc-suc, eqb·suc-zero}
-use lib.Arith.{lt-one, le-zero, digits-div, digits-mod}
-use lib.Bits.{bitAnd, and-le-r}
-use lib.Count.{ones, ones-step, ones-le, trailingZeros, trailing-le, under}
+use Rattle.bits.proofs.Kit.{_≡_, refl, sym, ap, ap₂, _∙_, subst, _≢_, Bool, true, false, not, _&&_, and-true, and-self, ℕ, zero, suc, _+_, _-_, _*_, _/_, _%_, _^_, _<_, le-refl, le-of-suc-le-suc, not-suc-le-zero, mod-lt, div-add-mod', pow-suc, pos-of-ne-zero, lt-irrefl, decLt, one-add, arith, eq-eqb, eqb, eqb·suc-suc, eqb·suc-zero, lt-one, le-zero, digits-div, digits-mod, bitAnd, and-le-r, ones, ones-step, ones-le, trailingZeros, trailing-le, under}
 use Rattle.bits.specs.Bit.{bit}
 use Rattle.positions.specs.Positions.{onlyIf, countFrom}
 use Rattle.bits.proofs.Bits.{two-pos, bit-0, bit-suc, bit-and, bit-none}

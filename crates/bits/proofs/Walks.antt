@@ -1,13 +1,6 @@
 -- The walk over the set bits of a mask, `while m != 0 { .. trailing_zeros(m) ..; m &= m - 1 }`: a sum over those bits.
 -- And the first set bit from a place on. Assumes nothing.
-use mathlib.Core.Path.{_≡_, sym, ap, _∙_}
-use mathlib.Core.Logic.{_≢_}
-use mathlib.Core.Bool.{true, not, _&&_}
-use Prim.Native.Nat.{ℕ, _+_, _-_, _*_, _^_, _<_, zero-le}
-use native.Mathlib.Omega.{arith}
-use lib.Bits.{bitAnd}
-use lib.Count.{ones, trailingZeros}
-use lib.Dec.{eqb}
+use Rattle.bits.proofs.Kit.{_≡_, sym, ap, _∙_, _≢_, true, not, _&&_, ℕ, _+_, _-_, _*_, _^_, _<_, zero-le, arith, bitAnd, ones, trailingZeros, eqb}
 use Rattle.positions.specs.Positions.{sumOver}
 use Rattle.positions.proofs.Sums as S
 use Rattle.positions.proofs.Counts.{over-const}

@@ -1,14 +1,5 @@
 -- Laws of `mask`, the word with given bits, and of `put`, a word with some bits given a value. Assumes nothing.
-use mathlib.Core.Path.{_≡_, refl, ap, sym, _∙_, ap₂}
-use mathlib.Core.Bool.{Bool, true, false, not, _&&_, _||_, cond}
-use Prim.Native.Nat.{ℕ, zero, suc, _+_, _*_, _-_, _/_, _%_, _^_, _≤_, _<_}
-use native.Mathlib.Nat.{pow-succ', lt-of-le-of-lt, lt-of-lt-of-le}
-use native.Mathlib.Omega.{arith}
-use lib.Dec.{eqb, ltb, leb·suc-suc, leb·suc-zero}
-use lib.Bits.{or-lt, and-le-l}
-use lib.Count.{ones}
-use lib.Pow.{pow-lt, pow-mono, pow-pos}
-use borrow.Author.Tests.{lt-ltb, ltb-true}
+use Rattle.bits.proofs.Kit.{_≡_, refl, ap, sym, _∙_, ap₂, Bool, true, false, not, _&&_, _||_, cond, ℕ, zero, suc, _+_, _*_, _-_, _/_, _%_, _^_, _≤_, _<_, pow-succ', lt-of-le-of-lt, lt-of-lt-of-le, arith, eqb, ltb, leb·suc-suc, leb·suc-zero, or-lt, and-le-l, ones, pow-lt, pow-mono, pow-pos, lt-ltb, ltb-true}
 use Rattle.positions.specs.Positions.{Positions, one, countFrom}
 use Rattle.positions.proofs.Bools.{and-left, and-right, same₂}
 use Rattle.positions.proofs.Counts.{countFrom-ext}

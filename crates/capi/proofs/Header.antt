@@ -1,13 +1,7 @@
 -- What include/kladomyne.h says of every answer, on any memory, from the exports' promises: the refusal's number, what a
 -- refused answer has beside it, that a refused call changes nothing, and which numbers an accepted one can have.
 -- Assumes nothing.
-use mathlib.Core.Path.{_≡_, refl, ap, sym, _∙_}
-use mathlib.Core.Logic.{_≢_}
-use mathlib.Core.Bool.{Bool, true, false, cond}
-use mathlib.Core.List.{List}
-use Prim.Native.Nat.{ℕ, _≤_}
-use native.Mathlib.Omega.{arith}
-use lib.ListN.{length}
+use Rattle.capi.proofs.Kit.{_≡_, refl, ap, sym, _∙_, _≢_, Bool, true, false, cond, List, ℕ, _≤_, arith, length}
 use Rattle.positions.specs.Positions.{Positions, one}
 use Rattle.positions.specs.Replies.{Reply, number, refusal, refused}
 use Rattle.range_bitset.specs.Answers.{ofCounted, ofTested, ofFound, goodHead, headRefusal, storageRefusal, rangeRefusal, pointRefusal}

@@ -1,9 +1,6 @@
 -- An export's promise from what its callees promise: the head that was read, the entry's answer, the numbers for it.
 -- Assumes nothing.
-use mathlib.Core.Path.{_≡_, ap, _∙_, subst}
-use mathlib.Core.Bool.{Bool}
-use mathlib.Core.List.{List}
-use Prim.Native.Nat.{ℕ}
+use Rattle.capi.proofs.Kit.{_≡_, ap, _∙_, subst, Bool, List, ℕ}
 use Rattle.range_bitset.specs.Entries.{AssignEnsures, SetEnsures, ClearEnsures}
 use Rattle.range_bitset.specs.declared.RangeBitset.{RangeBitset}
 use Rattle.range_bitset.specs.declared.Assigned.{Assigned}

@@ -2,15 +2,7 @@
 -- number, the bad run's index, what a refused answer has beside it, that a refused call changes nothing, and what of the head
 -- holds in any case.
 -- Assumes nothing.
-use mathlib.Core.Path.{_≡_, refl, sym, ap, _∙_}
-use mathlib.Core.Logic.{_≢_, _⊎_, inl, inr}
-use mathlib.Core.Bool.{Bool, true, false}
-use mathlib.Core.List.{List, [], _∷_}
-use Prim.Native.Nat.{ℕ, _-_, _≤_}
-use native.Mathlib.Omega.{arith}
-use borrow.Author.Tests.{eqb-true, eqb-false}
-use lib.Dec.{eqb}
-use lib.ListN.{length}
+use Rattle.capi_ledger.proofs.Kit.{_≡_, refl, sym, ap, _∙_, _≢_, _⊎_, inl, inr, Bool, true, false, List, [], _∷_, ℕ, _-_, _≤_, arith, eqb-true, eqb-false, eqb, length}
 use Rattle.positions.proofs.Replies.{accepted-refused}
 use Rattle.positions.specs.Replies.{Reply, Numbers, Refusal, refusal, refused, Accepted}
 use Rattle.range_bitset.specs.Answers.{ofCounted}

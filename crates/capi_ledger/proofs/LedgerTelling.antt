@@ -1,8 +1,6 @@
 -- A ledger export's promise from what its callees promise: the head that was read, the entry's answer, the numbers for it.
 -- Assumes nothing.
-use mathlib.Core.Path.{_≡_, ap, _∙_}
-use mathlib.Core.List.{List}
-use Prim.Native.Nat.{ℕ}
+use Rattle.capi_ledger.proofs.Kit.{_≡_, ap, _∙_, List, ℕ}
 use Rattle.ledger.specs.Machine.{Call, Wipe}
 use Rattle.ledger.specs.declared.Ledger.{Ledger}
 use Rattle.ledger.specs.declared.Called.{Called}

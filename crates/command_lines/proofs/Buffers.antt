@@ -1,15 +1,6 @@
 -- A line gathered in a buffer of 28 bytes or more means what the whole line means: a good line has at most 27 bytes, so a line
 -- that did not fit is bad, and so are the bytes kept of it. And how gathering cuts the input into lines. Assumes nothing.
-use mathlib.Core.Path.{_≡_, refl, sym, ap, _∙_}
-use mathlib.Core.Bool.{Bool, true, false, cond, _&&_, false≢true}
-use mathlib.Core.List.{List, [], _∷_, _++_, append-assoc, append-nil}
-use Prim.Native.Nat.{ℕ, suc, _+_, _^_, _≤_, _<_, min}
-use native.Mathlib.Omega.{arith}
-use lib.ListN.{length, take, drop, getD, set, length-append, length-set, length-take, length-drop}
-use lib.Seq.{sets, set-out, take-all, take-suc-set, take-append-le, drop-cons}
-use native.Mathlib.Numerals.{add-one}
-use lib.Dec.{leb, ltb, eqb}
-use borrow.Author.Tests.{leb-true, leb-false, ltb-true, ltb-false}
+use Rattle.command_lines.proofs.Kit.{_≡_, refl, sym, ap, _∙_, Bool, true, false, cond, _&&_, false≢true, List, [], _∷_, _++_, append-assoc, append-nil, ℕ, suc, _+_, _^_, _≤_, _<_, min, arith, length, take, drop, getD, set, length-append, length-set, length-take, length-drop, sets, set-out, take-all, take-suc-set, take-append-le, drop-cons, add-one, leb, ltb, eqb, leb-true, leb-false, ltb-true, ltb-false}
 use Rattle.positions.proofs.Bools.{and-left, and-right}
 use Rattle.command_lines.specs.declared.Gathered.{Gathered}
 use Rattle.command_lines.specs.declared.Command.the-variants.{Bad}

@@ -1,14 +1,6 @@
 -- Laws of the decimal digits of a number: the last digit and those before it, how many there are, and that reading them gives
 -- the number back. Assumes nothing.
-use mathlib.Core.Path.{_≡_, refl, sym, ap, _∙_}
-use mathlib.Core.Bool.{Bool, true, false, cond}
-use mathlib.Core.List.{List, [], _∷_, _++_}
-use Prim.Native.Nat.{ℕ, zero, suc, _+_, _*_, _-_, _/_, _%_, _^_, _≤_, _<_}
-use native.Mathlib.Nat.{pow-suc}
-use native.Mathlib.Omega.{arith}
-use lib.ListN.{length, length-append}
-use lib.Dec.{ltb}
-use borrow.Author.Tests.{ltb-true, ltb-false, lt-ltb, le-ltb, le-leb}
+use Rattle.command_lines.proofs.Kit.{_≡_, refl, sym, ap, _∙_, Bool, true, false, cond, List, [], _∷_, _++_, ℕ, zero, suc, _+_, _*_, _-_, _/_, _%_, _^_, _≤_, _<_, pow-suc, arith, length, length-append, ltb, ltb-true, ltb-false, lt-ltb, le-ltb, le-leb}
 use Rattle.positions.proofs.Bools.{and-left, and-right}
 use Rattle.command_lines.specs.Lines.{digit, allDigits, valueFrom, value, isNumber}
 use Rattle.command_lines.specs.Answers.{digitsWithin, digits}

@@ -1,8 +1,5 @@
 -- The definitions compute: good lines, every kind of bad line, answers and inputs. Assumes nothing.
-use mathlib.Core.Path.{_≡_, refl, ap}
-use mathlib.Core.List.{List, [], _∷_, _++_}
-use Prim.Native.Nat.{ℕ}
-use lib.Dec.{lit<}
+use Rattle.command_lines.proofs.Kit.{_≡_, refl, ap, List, [], _∷_, _++_, ℕ, lit<}
 use Rattle.command_lines.specs.declared.Command.the-variants.{New, Mark, Clear, Count, One, Zero, Back, Wipe, Bad}
 use Rattle.command_lines.specs.declared.Answer.the-variants.{Number, Nothing, Refused, BadLine}
 use Rattle.command_lines.specs.Lines.{fields, isNumber, meaning}

@@ -1,13 +1,5 @@
 -- Laws of a text's fields: the first field and the rest, the text of the fields joined, and a keyword before a space. Assumes nothing.
-use mathlib.Core.Path.{_≡_, refl, sym, ap, _∙_}
-use mathlib.Core.Bool.{Bool, true, false, not, cond, _&&_}
-use mathlib.Core.List.{List, [], _∷_, _++_}
-use Prim.Native.Nat.{ℕ, _+_, _≤_, _<_}
-use native.Mathlib.Numerals.{add-one}
-use lib.ListN.{length, drop, drop-of-length-le, getD}
-use lib.Seq.{drop-drop, drop-cons}
-use lib.Dec.{eqb}
-use borrow.Author.Tests.{eqb-true, not-true, eq-eqb, ne-eqb}
+use Rattle.command_lines.proofs.Kit.{_≡_, refl, sym, ap, _∙_, Bool, true, false, not, cond, _&&_, List, [], _∷_, _++_, ℕ, _+_, _≤_, _<_, add-one, length, drop, drop-of-length-le, getD, drop-drop, drop-cons, eqb, eqb-true, not-true, eq-eqb, ne-eqb}
 use Rattle.positions.proofs.Bools.{and-left, and-right}
 use Rattle.command_lines.specs.Lines.{fields, onto}
 use Rattle.command_lines.specs.Inner.{firstField}

@@ -1,12 +1,5 @@
 -- Laws of putting text into the output: stores one after the other, and an answer with and without room. Assumes nothing.
-use mathlib.Core.Path.{_≡_, refl, sym, ap, _∙_}
-use mathlib.Core.List.{List, [], _∷_, _++_}
-use Prim.Native.Nat.{ℕ, suc, _+_, _/_, _%_, _≤_, _<_}
-use native.Mathlib.Omega.{arith}
-use native.Mathlib.Numerals.{add-one}
-use lib.ListN.{length, take, drop, getD, set, length-append, drop-of-length-le}
-use lib.Seq.{sets, sets-eq, drop-cons, set-out, take-at, length-take-le}
-use borrow.Author.Tests.{le-leb, lt-leb}
+use Rattle.command_lines.proofs.Kit.{_≡_, refl, sym, ap, _∙_, List, [], _∷_, _++_, ℕ, suc, _+_, _/_, _%_, _≤_, _<_, arith, add-one, length, take, drop, getD, set, length-append, drop-of-length-le, sets, sets-eq, drop-cons, set-out, take-at, length-take-le, le-leb, lt-leb}
 use Rattle.command_lines.specs.declared.Answer.{Answer}
 use Rattle.command_lines.specs.declared.Answer.the-variants.{Refused}
 use Rattle.command_lines.specs.Answers.{digits, refused, printed, outAfter, usedAfter}

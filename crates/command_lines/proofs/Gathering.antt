@@ -1,16 +1,6 @@
 -- Laws of gathering a line: the bytes up to a newline, one byte more in the buffer, and what the buffer then holds of the line.
 -- Assumes nothing.
-use mathlib.Core.Path.{_≡_, refl, sym, ap, _∙_}
-use mathlib.Core.Bool.{Bool, true, false, cond}
-use mathlib.Core.List.{List, [], _∷_}
-use Prim.Native.Nat.{ℕ, suc, _+_, _≤_, _<_, min, max}
-use native.Mathlib.Nat.{add-zero}
-use native.Mathlib.Omega.{arith}
-use native.Mathlib.Numerals.{add-one}
-use lib.ListN.{length, drop, getD, set, drop-of-length-le, length-set}
-use lib.Seq.{sets, drop-cons}
-use lib.Dec.{ltb}
-use borrow.Author.Tests.{eq-eqb, ne-eqb, ltb-true, ltb-false}
+use Rattle.command_lines.proofs.Kit.{_≡_, refl, sym, ap, _∙_, Bool, true, false, cond, List, [], _∷_, ℕ, suc, _+_, _≤_, _<_, min, max, add-zero, arith, add-one, length, drop, getD, set, drop-of-length-le, length-set, sets, drop-cons, ltb, eq-eqb, ne-eqb, ltb-true, ltb-false}
 use Rattle.command_lines.specs.Input.{upTo, ends, keptNext, keptAfter, Gathers}
 use Rattle.command_lines.proofs.Filling.{sets-out}
 

@@ -1,4 +1,5 @@
 -- The laws of this crate. Assumes nothing.
+mod Kit
 pub mod Texts
 pub mod Fields
 pub mod NumberFields

@@ -1,10 +1,5 @@
 -- Laws of what a line means: a line that starts with a keyword and a space, a line that starts with none, and a long line. Assumes nothing.
-use mathlib.Core.Path.{_≡_, refl, sym, ap, _∙_}
-use mathlib.Core.Bool.{Bool, true, false}
-use mathlib.Core.List.{List, [], _∷_, _++_, append-assoc, append-nil}
-use Prim.Native.Nat.{ℕ, _≤_}
-use native.Mathlib.Omega.{arith}
-use lib.ListN.{length, drop, drop-of-length-le}
+use Rattle.command_lines.proofs.Kit.{_≡_, refl, sym, ap, _∙_, Bool, true, false, List, [], _∷_, _++_, append-assoc, append-nil, ℕ, _≤_, arith, length, drop, drop-of-length-le}
 use Rattle.command_lines.specs.declared.Command.the-variants.{Bad}
 use Rattle.command_lines.specs.declared.Pair.{Pair}
 use Rattle.command_lines.specs.declared.Pair.the-variants.{Both, Not}

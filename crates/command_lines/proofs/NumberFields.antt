@@ -1,14 +1,6 @@
 -- Laws of reading a number digit by digit: what is known after n digits of value v decides, with the rest of the field, what
 -- the whole field reads. Assumes nothing.
-use mathlib.Core.Path.{_≡_, refl, ap, _∙_}
-use mathlib.Core.Bool.{Bool, true, false, cond, _&&_}
-use mathlib.Core.List.{List, [], _∷_}
-use Prim.Native.Nat.{ℕ, zero, suc, _+_, _*_, _-_, _^_, _≤_, _<_}
-use native.Mathlib.Nat.{zero-add, add-zero, sub-self, lt-of-lt-of-le, pow-le-pow-right, pow-suc}
-use native.Mathlib.Omega.{arith}
-use lib.ListN.{length, drop, getD}
-use lib.Dec.{leb, ltb, eqb, lit<}
-use borrow.Author.Tests.{lt-leb, le-leb, eqb-false, eqb-true}
+use Rattle.command_lines.proofs.Kit.{_≡_, refl, ap, _∙_, Bool, true, false, cond, _&&_, List, [], _∷_, ℕ, zero, suc, _+_, _*_, _-_, _^_, _≤_, _<_, zero-add, add-zero, sub-self, lt-of-lt-of-le, pow-le-pow-right, pow-suc, arith, length, drop, getD, leb, ltb, eqb, lit<, lt-leb, le-leb, eqb-false, eqb-true}
 use Rattle.command_lines.specs.declared.Field.{Field}
 use Rattle.command_lines.specs.declared.Field.the-variants.{Number, Other}
 use Rattle.command_lines.specs.Lines.{digit, allDigits, valueFrom, value, isNumber}

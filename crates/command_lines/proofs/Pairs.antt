@@ -1,9 +1,5 @@
 -- Laws of the two numbers that the text from an index on consists of, from what the reader finds there. Assumes nothing.
-use mathlib.Core.Path.{_≡_, refl, ap, _∙_}
-use mathlib.Core.Bool.{Bool, true, false, _&&_}
-use mathlib.Core.List.{List, [], _∷_}
-use Prim.Native.Nat.{ℕ, _+_, _≤_, _<_}
-use lib.ListN.{length, drop}
+use Rattle.command_lines.proofs.Kit.{_≡_, refl, ap, _∙_, Bool, true, false, _&&_, List, [], _∷_, ℕ, _+_, _≤_, _<_, length, drop}
 use Rattle.command_lines.specs.declared.Field.the-variants.{Number, Other}
 use Rattle.command_lines.specs.declared.Pair.the-variants.{Both, Not}
 use Rattle.command_lines.specs.Lines.{fields, isNumber, pair}

@@ -1,13 +1,5 @@
 -- Laws of comparing texts: `same` is equality, and `starts` says that a text starts with another. Assumes nothing.
-use mathlib.Core.Path.{_≡_, refl}
-use mathlib.Core.Bool.{true, false, false≢true}
-use mathlib.Core.List.{List, [], _∷_, _++_}
-use Prim.Native.Nat.{ℕ, _+_, _≤_, _<_}
-use native.Mathlib.Numerals.{add-one}
-use lib.ListN.{length, drop, getD, drop-of-length-le}
-use lib.Seq.{drop-cons}
-use lib.Dec.{eqb}
-use borrow.Author.Tests.{eqb-true, eq-eqb, ne-eqb}
+use Rattle.command_lines.proofs.Kit.{_≡_, refl, true, false, false≢true, List, [], _∷_, _++_, ℕ, _+_, _≤_, _<_, add-one, length, drop, getD, drop-of-length-le, drop-cons, eqb, eqb-true, eq-eqb, ne-eqb}
 use Rattle.positions.proofs.Bools.{and-left, and-right}
 use Rattle.command_lines.specs.Lines.{same}
 use Rattle.command_lines.specs.Inner.{starts}

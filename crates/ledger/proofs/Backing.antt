@@ -1,14 +1,5 @@
 -- The returns of `wipe` and `take_back`: what each promises, from what the code has there. Assumes nothing.
-use mathlib.Core.Path.{_≡_, refl, sym, ap, _∙_, subst}
-use mathlib.Core.Logic.{inl}
-use mathlib.Core.Bool.{Bool, true, false, not, _&&_, _||_, cond, or-false}
-use mathlib.Core.List.{List, [], _∷_, _++_}
-use Prim.Native.Nat.{ℕ, _+_, _*_, _-_, _/_, _%_, _≤_, _<_, min}
-use native.Mathlib.Omega.{arith}
-use borrow.Author.Tests.{le-leb, eq-eqb, ne-eqb, eqb-true, eqb-false}
-use lib.Dec.{eqb, leb, ltb}
-use lib.ListN.{length, getD, take, length-append}
-use lib.Seq.{length-take-le, getD-take, take-take, take-at}
+use Rattle.ledger.proofs.Kit.{_≡_, refl, sym, ap, _∙_, subst, inl, Bool, true, false, not, _&&_, _||_, cond, or-false, List, [], _∷_, _++_, ℕ, _+_, _*_, _-_, _/_, _%_, _≤_, _<_, min, arith, le-leb, eq-eqb, ne-eqb, eqb-true, eqb-false, eqb, leb, ltb, length, getD, take, length-append, length-take-le, getD-take, take-take, take-at}
 use Rattle.positions.proofs.Replies.{accepted-refused}
 use Rattle.positions.specs.Positions.{Positions, count, one}
 use Rattle.positions.specs.Runs.{Run, changedRuns, lengths}

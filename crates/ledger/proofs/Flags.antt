@@ -1,12 +1,6 @@
 -- Take-back keeps the flag over every list of calls from new or open: with the flag clear no standing clearing has changed a
 -- position, so there is none to set again. Assumes nothing.
-use mathlib.Core.Path.{_≡_, refl, sym, ap, _∙_}
-use mathlib.Core.Bool.{Bool, true, false, not, _&&_, _||_, true≢false}
-use mathlib.Core.List.{List, [], _∷_}
-use Prim.Native.Nat.{ℕ}
-use native.Mathlib.Omega.{arith}
-use borrow.Author.Tests.{le-ltb, ltb-true, ltb-false}
-use lib.Dec.{ltb}
+use Rattle.ledger.proofs.Kit.{_≡_, refl, sym, ap, _∙_, Bool, true, false, not, _&&_, _||_, true≢false, List, [], _∷_, ℕ, arith, le-ltb, ltb-true, ltb-false, ltb}
 use Rattle.positions.specs.Positions.{changedCount, differ, lacking}
 use Rattle.positions.proofs.Counts.{count-none}
 use Rattle.positions.specs.Replies.{Reply, Numbers, Refusal}

@@ -1,12 +1,5 @@
 -- Demand 3's proof: from what new or open gives, through each call's promise, to what can be asked afterwards. Assumes nothing.
-use mathlib.Core.Path.{_≡_, refl, ap, subst, _∙_}
-use mathlib.Core.Bool.{Bool, true, false, _&&_, cond}
-use mathlib.Core.List.{List}
-use Prim.Native.Nat.{ℕ, _%_, _/_, _≤_, _<_}
-use native.Mathlib.Omega.{arith}
-use borrow.Author.Tests.{leb-true, eqb-true}
-use lib.Dec.{eqb, leb}
-use lib.ListN.{length}
+use Rattle.ledger.proofs.Kit.{_≡_, refl, ap, subst, _∙_, Bool, true, false, _&&_, cond, List, ℕ, _%_, _/_, _≤_, _<_, arith, leb-true, eqb-true, eqb, leb, length}
 use Rattle.positions.specs.Positions.{Positions, count}
 use Rattle.positions.proofs.Bools.{and-left, and-right}
 use Rattle.range_bitset.specs.Layout.{allowed}

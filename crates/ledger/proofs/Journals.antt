@@ -1,11 +1,5 @@
 -- Laws of the journal: what its last numbers are, for code that unpacks them. Assumes nothing.
-use mathlib.Core.Path.{_≡_, refl}
-use mathlib.Core.Bool.{Bool, true, false}
-use mathlib.Core.List.{List, [], _∷_, _++_, append-assoc}
-use Prim.Native.Nat.{ℕ, _+_, _*_, _/_, _%_}
-use native.Mathlib.Omega.{arith}
-use lib.ListN.{length, getD, length-append}
-use lib.Seq.{getD-append-add, getD-at}
+use Rattle.ledger.proofs.Kit.{_≡_, refl, Bool, true, false, List, [], _∷_, _++_, append-assoc, ℕ, _+_, _*_, _/_, _%_, arith, length, getD, length-append, getD-append-add, getD-at}
 use Rattle.positions.specs.Positions.{one}
 use Rattle.positions.specs.Runs.{Run}
 use Rattle.ledger.specs.Journal.{pairs, entry}

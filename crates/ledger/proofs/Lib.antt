@@ -1,4 +1,5 @@
 -- The ledger's laws, and the proof of the history theorem. Assumes nothing.
+mod Kit
 pub mod Journals
 pub mod Machines
 pub mod Refusals

@@ -1,12 +1,5 @@
 -- Laws of the plain machine. Assumes nothing.
-use mathlib.Core.Path.{_≡_, refl, sym, ap, _∙_}
-use mathlib.Core.Bool.{Bool, true, false, not}
-use mathlib.Core.List.{List, [], _∷_, _++_}
-use Prim.Native.Nat.{ℕ, _+_, _-_, _≤_, _<_}
-use native.Mathlib.Omega.{arith}
-use borrow.Author.Tests.{leb-true, le-leb, lt-leb}
-use lib.Dec.{leb}
-use lib.ListN.{length, length-append}
+use Rattle.ledger.proofs.Kit.{_≡_, refl, sym, ap, _∙_, Bool, true, false, not, List, [], _∷_, _++_, ℕ, _+_, _-_, _≤_, _<_, arith, leb-true, le-leb, lt-leb, leb, length, length-append}
 use Rattle.positions.specs.Positions.{Positions, assigned, count}
 use Rattle.positions.specs.Runs.{changedRuns, assignedRuns}
 use Rattle.ledger.specs.Machine.{Standing, Machine, held, setOf, population, needs, used, Call, Range, Back, Wipe, needOf, standingCall, Verdict, Admitted, Declined, unless, rangeVerdict, standsAny, verdict, amount, withStanding, fresh, nextOf, Step, decided, step, after, added, changedBy, Stands, StandAll, Reachable, openedWith}

@@ -1,15 +1,6 @@
 -- Laws for marking and clearing: a search's place, the runs that a call changes walked by two searches each, counted and
 -- written into the journal. Assumes nothing.
-use mathlib.Core.Path.{_≡_, refl, sym, ap, _∙_}
-use mathlib.Core.Logic.{_⊎_, inl, inr}
-use mathlib.Core.Bool.{Bool, true, false, not, Bool·not-not}
-use mathlib.Core.List.{List, [], _∷_, _++_, append-assoc, append-nil}
-use Prim.Native.Nat.{ℕ, suc, _+_, _*_, _-_, _%_, _≤_, _<_}
-use native.Mathlib.Omega.{arith}
-use borrow.Author.Tests.{leb-true, leb-false, le-leb, lt-leb}
-use lib.Dec.{leb}
-use lib.ListN.{length, getD, take, set, length-set}
-use lib.Seq.{getD-set-other, take-suc-set}
+use Rattle.ledger.proofs.Kit.{_≡_, refl, sym, ap, _∙_, _⊎_, inl, inr, Bool, true, false, not, Bool·not-not, List, [], _∷_, _++_, append-assoc, append-nil, ℕ, suc, _+_, _*_, _-_, _%_, _≤_, _<_, arith, leb-true, leb-false, le-leb, lt-leb, leb, length, getD, take, set, length-set, getD-set-other, take-suc-set}
 use Rattle.positions.specs.Positions.{Positions, Place, At, None, first, one}
 use Rattle.positions.specs.Runs.{Run, run, placeOr, runEnd, changedRuns}
 use Rattle.positions.proofs.Searches.{Searched, hit, miss, first-means}

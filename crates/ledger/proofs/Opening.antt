@@ -1,12 +1,5 @@
 -- The returns of `new` and `open`: what each gives, from what the code has there. Assumes nothing.
-use mathlib.Core.Path.{_≡_, refl, sym, ap, _∙_, subst}
-use mathlib.Core.Bool.{Bool, true, false, not, cond}
-use mathlib.Core.List.{List, [], _∷_}
-use Prim.Native.Nat.{ℕ, _*_, _/_, _≤_, _<_}
-use native.Mathlib.Omega.{arith}
-use borrow.Author.Tests.{le-leb, lt-leb, lt-ltb, le-ltb, eq-eqb, ne-eqb}
-use lib.Dec.{eqb}
-use lib.ListN.{length}
+use Rattle.ledger.proofs.Kit.{_≡_, refl, sym, ap, _∙_, subst, Bool, true, false, not, cond, List, [], _∷_, ℕ, _*_, _/_, _≤_, _<_, arith, le-leb, lt-leb, lt-ltb, le-ltb, eq-eqb, ne-eqb, eqb, length}
 use Rattle.positions.proofs.Replies.{numbers-refusal}
 use Rattle.positions.specs.Positions.{Positions, none}
 use Rattle.positions.specs.Runs.{Ascending}

@@ -1,16 +1,6 @@
 -- Laws for code that gives runs one value, one run after the other: one run more, the runs read from a journal or from a
 -- saved list, and what taking a call's changed runs back changes. Assumes nothing.
-use mathlib.Core.Path.{_≡_, refl, sym, ap, _∙_, subst}
-use mathlib.Core.Bool.{Bool, true, false, not, _&&_, _||_, or-false}
-use mathlib.Core.List.{List, [], _∷_, _++_, append-assoc}
-use Prim.Native.Nat.{ℕ, zero, suc, _+_, _*_, _-_, _%_, _≤_, _<_}
-use native.Mathlib.Nat.{zero-add}
-use native.Mathlib.Numerals.{add-one}
-use native.Mathlib.Omega.{arith}
-use borrow.Author.Tests.{lt-ltb, ltb-true, ltb-false, leb-true, leb-false, ne-eqb}
-use lib.Dec.{eqb, ltb, leb}
-use lib.ListN.{length, getD, take}
-use lib.Seq.{getD-take}
+use Rattle.ledger.proofs.Kit.{_≡_, refl, sym, ap, _∙_, subst, Bool, true, false, not, _&&_, _||_, or-false, List, [], _∷_, _++_, append-assoc, ℕ, zero, suc, _+_, _*_, _-_, _%_, _≤_, _<_, zero-add, add-one, arith, lt-ltb, ltb-true, ltb-false, leb-true, leb-false, ne-eqb, eqb, ltb, leb, length, getD, take, getD-take}
 use Rattle.positions.specs.Positions.{Positions, assigned, changedCount, lacking}
 use Rattle.positions.specs.Runs.{Run, run, runs, changedRuns, assignedRuns, lengths, Ascending}
 use Rattle.positions.proofs.Bools.{same₄}

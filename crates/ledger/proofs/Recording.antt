@@ -1,12 +1,5 @@
 -- Laws for marking and clearing as calls: one for each return of `assign`, with the machine's step there. Assumes nothing.
-use mathlib.Core.Path.{_≡_, refl, sym, ap, _∙_}
-use mathlib.Core.Logic.{inl, inr}
-use mathlib.Core.Bool.{Bool, true, false, true≢false, cond}
-use mathlib.Core.List.{List}
-use Prim.Native.Nat.{ℕ, _+_, _*_, _-_, _/_, _≤_, _<_}
-use native.Mathlib.Omega.{arith}
-use borrow.Author.Tests.{le-leb, lt-leb, leb-true, leb-false, eq-eqb, ne-eqb}
-use lib.ListN.{length, take}
+use Rattle.ledger.proofs.Kit.{_≡_, refl, sym, ap, _∙_, inl, inr, Bool, true, false, true≢false, cond, List, ℕ, _+_, _*_, _-_, _/_, _≤_, _<_, arith, le-leb, lt-leb, leb-true, leb-false, eq-eqb, ne-eqb, length, take}
 use Rattle.positions.proofs.Replies.{accepted-refused}
 use Rattle.positions.specs.Positions.{Positions, assigned}
 use Rattle.positions.specs.Runs.{changedRuns}

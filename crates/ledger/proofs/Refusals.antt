@@ -1,12 +1,6 @@
 -- Laws of the refusals: what a declined call promises; and of 2 and 3, what each test of the code decides, what an accepted head and
 -- lent slices say, and that the head a call gives is accepted again. Assumes nothing.
-use mathlib.Core.Path.{_≡_, refl, sym, ap, _∙_}
-use mathlib.Core.Bool.{Bool, true, false, _&&_, cond}
-use mathlib.Core.List.{List}
-use Prim.Native.Nat.{ℕ, _/_, _≤_, _<_}
-use native.Mathlib.Omega.{arith}
-use borrow.Author.Tests.{leb-true, le-leb, lt-leb, eq-eqb, ne-eqb}
-use lib.Dec.{eqb, leb}
+use Rattle.ledger.proofs.Kit.{_≡_, refl, sym, ap, _∙_, Bool, true, false, _&&_, cond, List, ℕ, _/_, _≤_, _<_, arith, leb-true, le-leb, lt-leb, eq-eqb, ne-eqb, eqb, leb}
 use Rattle.positions.proofs.Bools.{and-left, and-right}
 use Rattle.positions.specs.Positions.{Positions}
 use Rattle.range_bitset.specs.Layout.{needed}

@@ -1,8 +1,5 @@
 -- The two forms of a call have one promise: laws on it. Assumes nothing.
-use mathlib.Core.Path.{_≡_, sym, subst}
-use mathlib.Core.Bool.{Bool}
-use mathlib.Core.List.{[], _∷_}
-use Prim.Native.Nat.{ℕ}
+use Rattle.ledger_lent.proofs.Kit.{_≡_, sym, subst, Bool, [], _∷_, ℕ}
 use Rattle.positions.specs.Replies.{Reply}
 use Rattle.ledger.specs.Machine.{Machine, Call, Range, after}
 use Rattle.ledger.specs.Memory.{Memory}

@@ -6,14 +6,7 @@
 use Rattle.saved_list.proofs.OneCallee.{refl, ap, subst, _≡_, ℕ, List, [], _∷_, length, URA, fullShare, named, Val, vptr, ent, sep, GName, Lft, Share, Fml, fsep, flft, flent, fobs, fauth, fres, fobor, fat, Heap, Atoms, sem}
 use Rattle.saved_list.proofs.OneCallee.{Given, Item, Goal, Soaks, Seq, Step, ‵, _⊛_, some, later, _$_, _∵_, !, qed, move, drop, use1, use3, split, join, pick, fsplit, fsplit3, fpick, fpack, fjoin, fjoin3, feqI, frame, await, done}
 use Rattle.saved_list.proofs.OneCallee.{Body, RattleType, owns, Is, shows, mem, cellAt, partAt, u32, u64, RefT, MutRef, sliceVal, MutSlice, ShrSlice, shr-slice-copy, only, opens, closes, owned, peeks}
-use lib.Dec.{T as Holds}
-use mir.Val.{hasTy, WT}
-use base.Stored.{Gv}
-use types.Kit.{step}
-use types.Tokens.{lft-new, lft-end}
-use denote.Lend.{lends-ref, ref-back}
-use denote.Memory.{partOf}
-use denote.Struct.Steps.{spelt}
+use Rattle.ledger_lent.proofs.Kit.{Holds, hasTy, WT, Gv, step, lft-new, lft-end, lends-ref, ref-back, partOf, spelt}
 use denote.Struct.Laws as LL
 use denote.Enum.Laws as EL
 use Rattle.ledger.specs.declared.Ledger.{Ledger}

@@ -1,2 +1,3 @@
 -- The laws of a list of calls run by code. Assumes nothing.
+mod Kit
 pub mod Replays

@@ -1,12 +1,5 @@
 -- Laws of `replay`: one call more, and what the chain of all comes to. Assumes nothing.
-use mathlib.Core.Path.{_≡_, refl, sym, ap, subst, _∙_}
-use mathlib.Core.List.{List, [], _∷_, _++_, map}
-use Prim.Native.Nat.{ℕ, _+_, _<_}
-use native.Mathlib.Numerals.{add-one}
-use native.Mathlib.Omega.{arith}
-use borrow.Author.Tests.{ne-eqb}
-use lib.ListN.{length, getD, drop, set}
-use lib.Seq.{take-suc-set, drop-set-lt, drop-drop}
+use Rattle.ledger_replay.proofs.Kit.{_≡_, refl, sym, ap, subst, _∙_, List, [], _∷_, _++_, map, ℕ, _+_, _<_, add-one, arith, ne-eqb, length, getD, drop, set, take-suc-set, drop-set-lt, drop-drop}
 use Rattle.positions.proofs.Replies.{numbers-refusal}
 use Rattle.positions.specs.Replies.{Reply, Accepted}
 use Rattle.saved_list.specs.Format.{savedCapacity, savedPositions}

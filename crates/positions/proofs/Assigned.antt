@@ -1,11 +1,6 @@
 -- Laws of `assigned` and `changedCount`: what giving a range a value changes, and ranges given one value piece by piece.
 -- Assumes nothing.
-use mathlib.Core.Path.{_≡_, refl, sym, ap, _∙_, fun-ext}
-use mathlib.Core.Bool.{Bool, true, false, cond, _&&_, true≢false}
-use Prim.Native.Nat.{ℕ, _+_, _-_, _≤_, _<_}
-use native.Mathlib.Omega.{arith}
-use borrow.Author.Tests.{leb-true, leb-false}
-use lib.Dec.{leb}
+use Rattle.positions.proofs.Kit.{_≡_, refl, sym, ap, _∙_, fun-ext, Bool, true, false, cond, _&&_, true≢false, ℕ, _+_, _-_, _≤_, _<_, arith, leb-true, leb-false, leb}
 use Rattle.positions.specs.Positions.{Positions, none, within, assigned, one, countFrom, count, differ, lacking, changedCount}
 use Rattle.positions.proofs.Ranges.{Place, inside, before, behind, place, within-in, within-before, within-behind}
 use Rattle.positions.proofs.Counts.{count-split, count-none, count-same, count-empty, count-le, count-zero, countFrom-balance, countFrom-none}

@@ -1,12 +1,5 @@
 -- Laws for code that walks a call's changed runs by searches, and that takes a call back run by run. Assumes nothing.
-use mathlib.Core.Path.{_≡_, refl, sym, ap, _∙_, subst}
-use mathlib.Core.Bool.{Bool, true, false, not, cond, _&&_, Bool·not-not, true≢false, false≢true}
-use mathlib.Core.List.{List, [], _∷_, _++_}
-use Prim.Native.Nat.{ℕ, suc, _*_, _-_, _≤_, _<_}
-use native.Mathlib.Omega.{arith}
-use borrow.Author.Tests.{ltb-true, ltb-false, leb-true, leb-false}
-use lib.Dec.{ltb, leb}
-use lib.ListN.{length}
+use Rattle.positions.proofs.Kit.{_≡_, refl, sym, ap, _∙_, subst, Bool, true, false, not, cond, _&&_, Bool·not-not, true≢false, false≢true, List, [], _∷_, _++_, ℕ, suc, _*_, _-_, _≤_, _<_, arith, ltb-true, ltb-false, leb-true, leb-false, ltb, leb, length}
 use Rattle.positions.specs.Positions.{Positions, assigned, within, differ, lacking, Place, At, None, first, changedCount}
 use Rattle.positions.specs.Runs.{Run, run, runs, changedRuns, placeOr, runEnd, assignedRuns, covered, lengths, Ascending}
 use Rattle.positions.proofs.Ranges.{within-in, within-behind}

@@ -1,10 +1,6 @@
 -- Laws of `countFrom` and `count`, how many positions of a range a set has: those of `sumOver` at 1, and what holds of
 -- counts alone. Assumes nothing.
-use mathlib.Core.Path.{_≡_, refl, sym, ap, _∙_}
-use mathlib.Core.Bool.{Bool, true, false}
-use Prim.Native.Nat.{ℕ, zero, suc, _+_, _-_, _*_, _≤_, _<_}
-use native.Mathlib.Nat.{le-refl, mul-one, not-suc-le-zero, one-mul, zero-mul}
-use native.Mathlib.Omega.{arith}
+use Rattle.positions.proofs.Kit.{_≡_, refl, sym, ap, _∙_, Bool, true, false, ℕ, zero, suc, _+_, _-_, _*_, _≤_, _<_, le-refl, mul-one, not-suc-le-zero, one-mul, zero-mul, arith}
 use Rattle.positions.specs.Positions.{Positions, onlyIf, one, sumOver, countFrom, count, total}
 use Rattle.positions.proofs.Sums as S
 use Rattle.positions.proofs.Totals as T

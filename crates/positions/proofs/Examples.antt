@@ -1,7 +1,5 @@
 -- The runs compute on a small set. 01's own cases are in ledger/specs/Cases. Assumes nothing.
-use mathlib.Core.Path.{_≡_, refl}
-use mathlib.Core.Bool.{true, false}
-use mathlib.Core.List.{[], _∷_}
+use Rattle.positions.proofs.Kit.{_≡_, refl, true, false, [], _∷_}
 use Rattle.positions.specs.Positions.{none, assigned}
 use Rattle.positions.specs.Runs.{run, runsFrom, runs, changedRuns}
 

@@ -1,4 +1,5 @@
 -- The laws of the definitions in specs/, which the other crates' proofs cite. Assumes nothing.
+mod Kit
 pub mod Bools
 pub mod Totals
 pub mod Sums

@@ -1,10 +1,5 @@
 -- Where a position lies with respect to a range, and what `within` is there. Assumes nothing.
-use mathlib.Core.Path.{_≡_, refl, _∙_}
-use mathlib.Core.Bool.{Bool, true, false, cond, _&&_}
-use Prim.Native.Nat.{ℕ, suc, _+_, _≤_, _<_}
-use native.Mathlib.Omega.{arith}
-use borrow.Author.Tests.{ltb-true, ltb-false, leb-true, leb-false, lt-ltb, le-ltb, le-leb, lt-leb, eqb-true, eqb-false}
-use lib.Dec.{leb, ltb, eqb}
+use Rattle.positions.proofs.Kit.{_≡_, refl, _∙_, Bool, true, false, cond, _&&_, ℕ, suc, _+_, _≤_, _<_, arith, ltb-true, ltb-false, leb-true, leb-false, lt-ltb, le-ltb, le-leb, lt-leb, eqb-true, eqb-false, leb, ltb, eqb}
 use Rattle.positions.specs.Positions.{within}
 
 -- where a position lies

@@ -1,8 +1,5 @@
 -- Laws of replies. Assumes nothing.
-use mathlib.Core.Path.{_≡_, refl}
-use mathlib.Core.List.{List}
-use Prim.Native.Nat.{ℕ}
-use native.Mathlib.Omega.{arith}
+use Rattle.positions.proofs.Kit.{_≡_, refl, List, ℕ, arith}
 use Rattle.positions.specs.Replies.{Reply, Numbers, Refusal, refused, Accepted}
 
 pub accepted-refused : (r : Reply) → Accepted r → refused r ≡ 0

@@ -1,14 +1,6 @@
 -- Laws of runs: they cover the set, they are the only ascending list that does, their lengths sum to the count,
 -- and giving the changed runs the other value back undoes a call. Assumes nothing.
-use mathlib.Core.Path.{_≡_, refl, sym, _∙_, fun-ext, subst}
-use mathlib.Core.Logic.{_≢_}
-use mathlib.Core.Bool.{Bool, true, false, not, cond, _&&_, true≢false, false≢true}
-use mathlib.Core.List.{List, [], _∷_}
-use Prim.Native.Nat.{ℕ, zero, suc, _+_, _-_, _≤_, _<_}
-use native.Mathlib.Nat.{add-zero, add-suc, suc-add}
-use native.Mathlib.Omega.{arith}
-use borrow.Author.Tests.{ltb-true, ltb-false, leb-true, leb-false, le-leb, eqb-true, eqb-false, eq-eqb, ne-eqb}
-use lib.Dec.{leb, ltb, eqb}
+use Rattle.positions.proofs.Kit.{_≡_, refl, sym, _∙_, fun-ext, subst, _≢_, Bool, true, false, not, cond, _&&_, true≢false, false≢true, List, [], _∷_, ℕ, zero, suc, _+_, _-_, _≤_, _<_, add-zero, add-suc, suc-add, arith, ltb-true, ltb-false, leb-true, leb-false, le-leb, eqb-true, eqb-false, eq-eqb, ne-eqb, leb, ltb, eqb}
 use Rattle.positions.specs.Positions.{Positions, within, assigned, count, differ, lacking}
 use Rattle.positions.specs.Runs.{Run, run, glued, runsFrom, runs, changedRuns, assignedRuns, covered, lengths, Ascending, Covers}
 use Rattle.positions.proofs.Ranges.{Place, inside, before, behind, place, within-in, within-before, within-behind, Same, here, off, same, within-more, within-none}

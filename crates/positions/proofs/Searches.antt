@@ -1,11 +1,5 @@
 -- Laws of searches: what `first` finds, and what proves that it finds it. Assumes nothing.
-use mathlib.Core.Path.{_≡_, refl}
-use mathlib.Core.Logic.{_⊎_, inl, inr}
-use mathlib.Core.Bool.{Bool, true, false, not, cond, true≢false, false≢true}
-use Prim.Native.Nat.{ℕ, zero, suc, _+_, _-_, _≤_, _<_}
-use native.Mathlib.Omega.{arith}
-use borrow.Author.Tests.{ltb-true, ltb-false}
-use lib.Dec.{ltb}
+use Rattle.positions.proofs.Kit.{_≡_, refl, _⊎_, inl, inr, Bool, true, false, not, cond, true≢false, false≢true, ℕ, zero, suc, _+_, _-_, _≤_, _<_, arith, ltb-true, ltb-false, ltb}
 use Rattle.positions.specs.Positions.{Positions, Place, At, None, differ, firstFrom, first}
 use Rattle.positions.specs.Walks.{Lacks, Stops, below}
 

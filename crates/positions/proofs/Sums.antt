@@ -1,11 +1,5 @@
 -- The laws of `sumOver`, a sum over a set's positions in a range. Assumes nothing.
-use mathlib.Core.Path.{_≡_, refl, sym, ap, ap₂, _∙_}
-use mathlib.Core.Bool.{Bool, true, false, not, _&&_, and-false}
-use Prim.Native.Nat.{ℕ, zero, suc, _+_, _-_, _*_, _≤_, _<_, zero-le}
-use native.Mathlib.Nat.{add-zero, zero-add, le-of-eq, mul-zero}
-use native.Mathlib.Omega.{arith}
-use borrow.Author.Tests.{eqb-true, eq-eqb, ne-eqb}
-use lib.Dec.{eqb}
+use Rattle.positions.proofs.Kit.{_≡_, refl, sym, ap, ap₂, _∙_, Bool, true, false, not, _&&_, and-false, ℕ, zero, suc, _+_, _-_, _*_, _≤_, _<_, zero-le, add-zero, zero-add, le-of-eq, mul-zero, arith, eqb-true, eq-eqb, ne-eqb, eqb}
 use Rattle.positions.specs.Positions.{onlyIf, sumOver}
 use Rattle.positions.proofs.Totals as T
 

@@ -1,9 +1,5 @@
 -- The laws of `total`, a sum over a range. Assumes nothing.
-use mathlib.Core.Path.{_≡_, refl, sym, ap, ap₂, _∙_}
-use Prim.Native.Nat.{ℕ, zero, suc, _+_, _-_, _*_, _≤_, _<_, zero-le}
-use native.Mathlib.Nat.{add-zero, add-suc, suc-add, zero-add, add-assoc, add-comm, add-le-add, add-mul, le-refl, suc-mul, zero-mul}
-use native.Mathlib.Numerals.{add-one}
-use native.Mathlib.Omega.{arith}
+use Rattle.positions.proofs.Kit.{_≡_, refl, sym, ap, ap₂, _∙_, ℕ, zero, suc, _+_, _-_, _*_, _≤_, _<_, zero-le, add-zero, add-suc, suc-add, zero-add, add-assoc, add-comm, add-le-add, add-mul, le-refl, suc-mul, zero-mul, add-one, arith}
 use Rattle.positions.specs.Positions.{total}
 
 module _ (f : ℕ → ℕ) where

@@ -1,10 +1,5 @@
 -- Sets that agree below the capacity are held by the same storages. Assumes nothing.
-use mathlib.Core.Path.{_≡_, ap, _∙_, ap₂}
-use mathlib.Core.Bool.{not, _&&_}
-use mathlib.Core.List.{List}
-use Prim.Native.Nat.{ℕ, _+_, _*_, _/_, _<_}
-use native.Mathlib.Omega.{arith}
-use lib.Dec.{eqb}
+use Rattle.range_bitset.proofs.Kit.{_≡_, ap, _∙_, ap₂, not, _&&_, List, ℕ, _+_, _*_, _/_, _<_, arith, eqb}
 use Rattle.positions.specs.Positions.{Positions}
 use Rattle.positions.proofs.Counts.{count-same}
 use Rattle.bits.proofs.Words.{mask-ext}

@@ -1,12 +1,5 @@
 -- `assign_in_word`: one word written anew in an open block. Assumes nothing.
-use mathlib.Core.Path.{_≡_, refl, ap, sym, _∙_, ap₂}
-use mathlib.Core.Bool.{Bool, true, false, not, cond}
-use mathlib.Core.List.{List}
-use Prim.Native.Nat.{ℕ, _+_, _*_, _/_, _%_, _^_, _≤_, _<_}
-use native.Mathlib.Omega.{arith}
-use lib.Dec.{eqb}
-use lib.Count.{ones}
-use borrow.Author.Tests.{eq-eqb, ne-eqb, eqb-true, eqb-false}
+use Rattle.range_bitset.proofs.Kit.{_≡_, refl, ap, sym, _∙_, ap₂, Bool, true, false, not, cond, List, ℕ, _+_, _*_, _/_, _%_, _^_, _≤_, _<_, arith, eqb, ones, eq-eqb, ne-eqb, eqb-true, eqb-false}
 use Rattle.positions.specs.Positions.{Positions, assigned, changedCount}
 use Rattle.positions.proofs.Ranges.{Place, inside, before, behind, place}
 use Rattle.positions.proofs.Counts.{count-swap}

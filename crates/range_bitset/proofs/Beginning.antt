@@ -1,10 +1,5 @@
 -- A storage begun holds the empty set, whatever stood there. Assumes nothing.
-use mathlib.Core.Path.{_≡_, ap, sym, _∙_, subst}
-use mathlib.Core.Bool.{Bool, true, false, not, _&&_, false≢true}
-use mathlib.Core.List.{List}
-use Prim.Native.Nat.{ℕ, _+_, _*_, _/_, _<_}
-use native.Mathlib.Omega.{arith}
-use lib.ListN.{drop}
+use Rattle.range_bitset.proofs.Kit.{_≡_, ap, sym, _∙_, subst, Bool, true, false, not, _&&_, false≢true, List, ℕ, _+_, _*_, _/_, _<_, arith, drop}
 use Rattle.positions.specs.Positions.{Positions}
 use Rattle.bits.proofs.Words.{mask-ext, mask-none}
 use Rattle.range_bitset.specs.Layout.{blocks, needed, at, topNonzero, topFull, Slot}

@@ -1,13 +1,5 @@
 -- The candidate masks: what a word, a block and the masks over them say of the positions of a value. Assumes nothing.
-use mathlib.Core.Path.{_≡_, refl, ap, sym, _∙_}
-use mathlib.Core.Bool.{Bool, true, false, not, _&&_, true≢false, false≢true}
-use mathlib.Core.List.{List}
-use Prim.Native.Nat.{ℕ, suc, _+_, _*_, _-_, _^_, _≤_, _<_}
-use native.Mathlib.Nat.{le-refl, lt-of-le-of-lt, lt-of-lt-of-le}
-use native.Mathlib.Omega.{arith}
-use lib.Bits.{bitAnd, and-le-l}
-use lib.Pow.{pow-mono, pow-pos}
-use borrow.Author.Tests.{lt-ltb, eq-eqb, not-false}
+use Rattle.range_bitset.proofs.Kit.{_≡_, refl, ap, sym, _∙_, Bool, true, false, not, _&&_, true≢false, false≢true, List, ℕ, suc, _+_, _*_, _-_, _^_, _≤_, _<_, le-refl, lt-of-le-of-lt, lt-of-lt-of-le, arith, bitAnd, and-le-l, pow-mono, pow-pos, lt-ltb, eq-eqb, not-false}
 use Rattle.positions.specs.Positions.{Positions}
 use Rattle.positions.proofs.Ranges.{within-in}
 use Rattle.positions.specs.Walks.{Lacks}

@@ -1,12 +1,5 @@
 -- The returns of `assign`, `set` and `clear`: what each promises, from what the code has there. Assumes nothing.
-use mathlib.Core.Path.{_≡_, refl, ap, sym, _∙_, subst}
-use mathlib.Core.Bool.{Bool, true, false, not, _&&_, _||_, cond, true≢false, false≢true, or-false}
-use mathlib.Core.List.{List}
-use Prim.Native.Nat.{ℕ, suc, _+_, _*_, _-_, _/_, _%_, _^_, _≤_, _<_}
-use native.Mathlib.Omega.{arith}
-use lib.Dec.{eqb, ltb}
-use lib.ListN.{drop, length}
-use borrow.Author.Tests.{eqb-true, eqb-false, eq-eqb, ne-eqb, lt-ltb, le-ltb}
+use Rattle.range_bitset.proofs.Kit.{_≡_, refl, ap, sym, _∙_, subst, Bool, true, false, not, _&&_, _||_, cond, true≢false, false≢true, or-false, List, ℕ, suc, _+_, _*_, _-_, _/_, _%_, _^_, _≤_, _<_, arith, eqb, ltb, drop, length, eqb-true, eqb-false, eq-eqb, ne-eqb, lt-ltb, le-ltb}
 use Rattle.positions.proofs.Replies.{accepted-refused}
 use Rattle.positions.specs.Positions.{Positions, none, within, assigned, count, changedCount, differ, lacking, one}
 use Rattle.positions.proofs.Ranges.{Place, inside, before, behind, place}

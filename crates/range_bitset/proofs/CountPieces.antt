@@ -1,12 +1,6 @@
 -- A range in pieces: what `count_range` and `whole_words_population` put together, from what the code has where its
 -- branches meet. Assumes nothing.
-use mathlib.Core.Path.{_≡_, refl, sym, ap, ap₂, _∙_}
-use mathlib.Core.Logic.{_≢_}
-use mathlib.Core.List.{List}
-use Prim.Native.Nat.{ℕ, _+_, _*_, _-_, _/_, _%_, _^_, _≤_, _<_}
-use native.Mathlib.Omega.{arith}
-use lib.Bits.{bitAnd}
-use lib.Count.{ones}
+use Rattle.range_bitset.proofs.Kit.{_≡_, refl, sym, ap, ap₂, _∙_, _≢_, List, ℕ, _+_, _*_, _-_, _/_, _%_, _^_, _≤_, _<_, arith, bitAnd, ones}
 use Rattle.positions.specs.Positions.{Positions, count}
 use Rattle.positions.proofs.Counts.{count-split, count-empty, count-le}
 use Rattle.range_bitset.specs.Layout.{wordsOf}

@@ -1,13 +1,5 @@
 -- What an accepted head, storage, range and point say, what is enough for each to be accepted, and a fresh set's head. Assumes nothing.
-use mathlib.Core.Path.{_≡_, refl, sym, ap, _∙_}
-use mathlib.Core.Bool.{Bool, true, false, cond, false≢true}
-use mathlib.Core.List.{List}
-use Prim.Native.Nat.{ℕ, zero, suc, _*_, _/_, _%_, _≤_, _<_}
-use native.Mathlib.Omega.{arith}
-use lib.Dec.{eqb, leb, ltb}
-use lib.Count.{ones}
-use lib.ListN.{length}
-use borrow.Author.Tests.{leb-true, le-leb, ltb-true, ltb-false, lt-ltb, le-ltb, eqb-true, eqb-false}
+use Rattle.range_bitset.proofs.Kit.{_≡_, refl, sym, ap, _∙_, Bool, true, false, cond, false≢true, List, ℕ, zero, suc, _*_, _/_, _%_, _≤_, _<_, arith, eqb, leb, ltb, ones, length, leb-true, le-leb, ltb-true, ltb-false, lt-ltb, le-ltb, eqb-true, eqb-false}
 use Rattle.positions.specs.Positions.{Positions, none}
 use Rattle.positions.proofs.Bools.{and-left, and-right}
 use Rattle.positions.proofs.Counts.{count-le, count-none}

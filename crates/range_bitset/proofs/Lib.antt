@@ -1,4 +1,5 @@
 -- The set's laws. Assumes nothing.
+mod Kit
 pub mod Heads
 pub mod Slots
 pub mod Words

@@ -1,13 +1,6 @@
 -- A mask that spans a range, in a word, in a block's words and in the blocks: how many bits it has, below what it lies, and
 -- what giving the range a value does to each word. Assumes nothing.
-use mathlib.Core.Path.{_≡_, refl, ap, sym, _∙_}
-use mathlib.Core.Bool.{Bool, true, false, cond}
-use Prim.Native.Nat.{ℕ, zero-le, _+_, _*_, _-_, _^_, _≤_, _<_}
-use native.Mathlib.Nat.{le-refl, lt-of-lt-of-le}
-use native.Mathlib.Omega.{arith}
-use lib.Count.{ones}
-use lib.Dec.{leb, ltb}
-use borrow.Author.Tests.{ltb-true}
+use Rattle.range_bitset.proofs.Kit.{_≡_, refl, ap, sym, _∙_, Bool, true, false, cond, ℕ, zero-le, _+_, _*_, _-_, _^_, _≤_, _<_, le-refl, lt-of-lt-of-le, arith, ones, leb, ltb, ltb-true}
 use Rattle.positions.specs.Positions.{Positions, within, assigned, count}
 use Rattle.positions.proofs.Bools.{and-right}
 use Rattle.positions.proofs.Ranges.{Place, inside, before, behind, place, within-in, within-before, within-behind, within-shift}

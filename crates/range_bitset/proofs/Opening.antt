@@ -1,12 +1,5 @@
 -- What opening and closing a block does: between `Stored` and `StoredOpen` with that block open. Assumes nothing.
-use mathlib.Core.Path.{_≡_, refl, ap, sym, _∙_, subst}
-use mathlib.Core.Bool.{Bool, true, false, not, _&&_, _||_, cond, true≢false, or-true}
-use mathlib.Core.List.{List, [], _∷_}
-use Prim.Native.Nat.{ℕ, _+_, _*_, _/_, _%_, _^_, _≤_, _<_}
-use native.Mathlib.Omega.{arith}
-use lib.Dec.{eqb}
-use lib.ListN.{drop}
-use borrow.Author.Tests.{eq-eqb, ne-eqb, eqb-true}
+use Rattle.range_bitset.proofs.Kit.{_≡_, refl, ap, sym, _∙_, subst, Bool, true, false, not, _&&_, _||_, cond, true≢false, or-true, List, [], _∷_, ℕ, _+_, _*_, _/_, _%_, _^_, _≤_, _<_, arith, eqb, drop, eq-eqb, ne-eqb, eqb-true}
 use Rattle.positions.specs.Positions.{Positions}
 use Rattle.bits.specs.Bit.{mask, put}
 use Rattle.bits.proofs.Words.{mask-ext, put-one}

@@ -1,10 +1,6 @@
 -- A range assigned in three pieces, as `assign_range` and `assign_whole_words` cut it: the low end, then the high end, then
 -- what lies between. Assumes nothing.
-use mathlib.Core.Path.{_≡_, refl, sym, _∙_, subst}
-use mathlib.Core.Bool.{Bool}
-use mathlib.Core.List.{List}
-use Prim.Native.Nat.{ℕ, _+_, _%_, _^_, _≤_}
-use native.Mathlib.Omega.{arith}
+use Rattle.range_bitset.proofs.Kit.{_≡_, refl, sym, _∙_, subst, Bool, List, ℕ, _+_, _%_, _^_, _≤_, arith}
 use Rattle.positions.proofs.Assigned.{assigned-empty, changed-empty, changed-le, assigned-pieces, changed-pieces}
 use Rattle.range_bitset.specs.Represents.{Stored}
 use Rattle.range_bitset.specs.Inner.{Assigns}

@@ -1,14 +1,6 @@
 -- What is counted in a storage that holds a set is the count of the set: the words of a mask in one block, whole blocks, and
 -- the bits of a mask in one word. Assumes nothing.
-use mathlib.Core.Path.{_≡_, refl, sym, ap, ap₂, _∙_}
-use mathlib.Core.Bool.{Bool, true, false, not, _&&_, _||_, cond}
-use mathlib.Core.List.{List}
-use Prim.Native.Nat.{ℕ, zero, suc, _+_, _*_, _-_, _/_, _≤_, _<_}
-use native.Mathlib.Nat.{le-refl, le-trans, lt-of-le-of-lt, add-suc, add-zero}
-use native.Mathlib.Numerals.{add-one}
-use native.Mathlib.Omega.{arith}
-use lib.Bits.{bitAnd, and-le-l}
-use lib.Count.{ones}
+use Rattle.range_bitset.proofs.Kit.{_≡_, refl, sym, ap, ap₂, _∙_, Bool, true, false, not, _&&_, _||_, cond, List, ℕ, zero, suc, _+_, _*_, _-_, _/_, _≤_, _<_, le-refl, le-trans, lt-of-le-of-lt, add-suc, add-zero, add-one, arith, bitAnd, and-le-l, ones}
 use Rattle.positions.specs.Positions.{Positions, onlyIf, one, total, sumOver, countFrom, count}
 use Rattle.positions.proofs.Counts.{countFrom-zero, countFrom-first, count-from, count-split, count-empty, count-le}
 use Rattle.positions.proofs.Ranges.{within-in, within-before, within-behind}

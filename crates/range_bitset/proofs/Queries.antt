@@ -1,12 +1,5 @@
 -- The returns of the entries that change nothing: what each answers, from what the code has there. Assumes nothing.
-use mathlib.Core.Path.{_≡_, refl, ap, sym, _∙_}
-use mathlib.Core.Logic.{_≢_}
-use mathlib.Core.Bool.{Bool, true, false}
-use mathlib.Core.List.{List}
-use Prim.Native.Nat.{ℕ, _/_, _%_, _≤_, _<_, zero-le}
-use native.Mathlib.Nat.{le-refl}
-use native.Mathlib.Omega.{arith}
-use lib.ListN.{length}
+use Rattle.range_bitset.proofs.Kit.{_≡_, refl, ap, sym, _∙_, _≢_, Bool, true, false, List, ℕ, _/_, _%_, _≤_, _<_, zero-le, le-refl, arith, length}
 use Rattle.positions.proofs.Replies.{accepted-refused}
 use Rattle.positions.specs.Positions.{Positions, one, Place, At, None}
 use Rattle.positions.proofs.Counts.{count-empty, count-none, count-zero}

@@ -1,11 +1,5 @@
 -- One block written anew: what the storage holds where only the numbers of one open block change. Assumes nothing.
-use mathlib.Core.Path.{_≡_, refl, ap, sym, _∙_, subst, ap₂}
-use mathlib.Core.Bool.{Bool, true, false, not, _&&_, _||_}
-use mathlib.Core.List.{List}
-use Prim.Native.Nat.{ℕ, _+_, _*_, _/_, _<_}
-use native.Mathlib.Omega.{arith}
-use lib.Dec.{eqb}
-use borrow.Author.Tests.{eqb-true}
+use Rattle.range_bitset.proofs.Kit.{_≡_, refl, ap, sym, _∙_, subst, ap₂, Bool, true, false, not, _&&_, _||_, List, ℕ, _+_, _*_, _/_, _<_, arith, eqb, eqb-true}
 use Rattle.positions.specs.Positions.{Positions}
 use Rattle.positions.proofs.Counts.{count-same}
 use Rattle.bits.proofs.Words.{mask-ext}

@@ -1,18 +1,6 @@
 -- The searches: what the lowest bit of a candidate mask is, and that `bits_from` and `next_after` stop at the first position
 -- of the value sought: one law for each return. Assumes nothing.
-use mathlib.Core.Path.{_≡_, refl, ap, sym, _∙_}
-use mathlib.Core.Logic.{_≢_}
-use mathlib.Core.Bool.{Bool, true, false, not, _&&_, cond, true≢false}
-use mathlib.Core.List.{List}
-use Prim.Native.Nat.{ℕ, zero, suc, _+_, _*_, _-_, _/_, _%_, _^_, _≤_, _<_}
-use native.Mathlib.Nat.{le-refl, lt-of-le-of-lt, lt-of-lt-of-le, add-zero, add-suc}
-use native.Mathlib.Decide.{decLt}
-use native.Mathlib.Omega.{arith}
-use lib.Dec.{ltb, leb}
-use lib.Bits.{bitAnd, and-le-l}
-use lib.Count.{trailingZeros, trailing-le}
-use lib.Pow.{pow-mono}
-use borrow.Author.Tests.{not-true, not-false, leb-true}
+use Rattle.range_bitset.proofs.Kit.{_≡_, refl, ap, sym, _∙_, _≢_, Bool, true, false, not, _&&_, cond, true≢false, List, ℕ, zero, suc, _+_, _*_, _-_, _/_, _%_, _^_, _≤_, _<_, le-refl, lt-of-le-of-lt, lt-of-lt-of-le, add-zero, add-suc, decLt, arith, ltb, leb, bitAnd, and-le-l, trailingZeros, trailing-le, pow-mono, not-true, not-false, leb-true}
 use Rattle.positions.specs.Positions.{Positions}
 use Rattle.positions.proofs.Bools.{and-left, and-right}
 use Rattle.positions.proofs.Ranges.{within-in}

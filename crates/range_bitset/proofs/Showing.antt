@@ -1,8 +1,5 @@
 -- The returns of the entries for the audit: what each shows, from what the code has there. Assumes nothing.
-use mathlib.Core.Path.{_≡_, refl, ap, sym, _∙_}
-use mathlib.Core.List.{List}
-use Prim.Native.Nat.{ℕ, _-_, _/_, _^_, _<_}
-use lib.ListN.{length, getD}
+use Rattle.range_bitset.proofs.Kit.{_≡_, refl, ap, sym, _∙_, List, ℕ, _-_, _/_, _^_, _<_, length, getD}
 use Rattle.range_bitset.specs.Layout.{blocks, address, nonzero, full, population, topNonzero, topFull}
 use Rattle.range_bitset.specs.Read.{stateOf}
 use Rattle.range_bitset.specs.Represents.{valid}

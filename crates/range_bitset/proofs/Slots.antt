@@ -1,17 +1,6 @@
 -- What a run of stores leaves at every slot, and what two runs leave: one law each. Two slots of one address are the same
 -- slot, by one computation over `kind` and `index`. Assumes nothing.
-use mathlib.Core.Path.{_≡_, refl, ap, sym, _∙_, subst}
-use mathlib.Core.Bool.{Bool, true, false, _&&_, cond, true≢false}
-use mathlib.Core.List.{List, [], _∷_}
-use Prim.Native.Nat.{ℕ, zero, suc, _+_, _*_, _≤_, _<_}
-use native.Mathlib.Nat.{le-refl, le-trans, le-of-eq, lt-of-lt-of-le}
-use native.Mathlib.Decide.{le-ind}
-use native.Mathlib.Omega.{arith}
-use lib.Dec.{eqb, ltb}
-use lib.Arith.{lt-of-le-ne}
-use lib.ListN.{length, getD, drop, length-set}
-use lib.Seq.{getD-set-same, getD-set-other, drop-set-lt}
-use borrow.Author.Tests.{eq-eqb, eqb-true, eqb-false, ltb-true, ltb-false}
+use Rattle.range_bitset.proofs.Kit.{_≡_, refl, ap, sym, _∙_, subst, Bool, true, false, _&&_, cond, true≢false, List, [], _∷_, ℕ, zero, suc, _+_, _*_, _≤_, _<_, le-refl, le-trans, le-of-eq, lt-of-lt-of-le, le-ind, arith, eqb, ltb, lt-of-le-ne, length, getD, drop, length-set, getD-set-same, getD-set-other, drop-set-lt, eq-eqb, eqb-true, eqb-false, ltb-true, ltb-false}
 use Rattle.bits.specs.Bit.{bit}
 use Rattle.range_bitset.specs.Layout.{blocks, needed, SamePast, Slot, word, nonzero, full, population, topNonzero, topFull, address, at}
 use Rattle.range_bitset.specs.Inner.{In, kind, index, same, Store, stores, find, AllIn}

@@ -1,18 +1,6 @@
 -- What the counting functions compute on any memory: the walks over a mask's bits, the population of a mixed block's words
 -- by its masks, and of whole blocks by the top masks. Assumes nothing.
-use mathlib.Core.Path.{_≡_, refl, sym, ap, ap₂, subst, _∙_}
-use mathlib.Core.Logic.{_≢_}
-use mathlib.Core.Bool.{Bool, true, false, not, _&&_, cond}
-use mathlib.Core.List.{List}
-use Prim.Native.Nat.{ℕ, _+_, _*_, _-_, _/_, _%_, _^_, _≤_, _<_}
-use native.Mathlib.Nat.{lt-of-lt-of-le, lt-of-le-of-lt, mul-zero}
-use native.Mathlib.Omega.{arith}
-use lib.Bits.{bitAnd, and-le-l, and-le-r}
-use lib.Count.{ones, ones-le, ones-ones, trailingZeros}
-use lib.ListN.{length, length-drop, getD, take, drop}
-use lib.Seq.{getD-take, getD-drop, length-take-le}
-use lib.Pow.{pow-mono}
-use borrow.Author.Tests.{not-true}
+use Rattle.range_bitset.proofs.Kit.{_≡_, refl, sym, ap, ap₂, subst, _∙_, _≢_, Bool, true, false, not, _&&_, cond, List, ℕ, _+_, _*_, _-_, _/_, _%_, _^_, _≤_, _<_, lt-of-lt-of-le, lt-of-le-of-lt, mul-zero, arith, bitAnd, and-le-l, and-le-r, ones, ones-le, ones-ones, trailingZeros, length, length-drop, getD, take, drop, getD-take, getD-drop, length-take-le, pow-mono, not-true}
 use Rattle.positions.specs.Positions.{sumOver, countFrom}
 use Rattle.positions.proofs.Bools.{and-left, and-right, same₂, same₃}
 use Rattle.positions.proofs.Counts.{over-const}

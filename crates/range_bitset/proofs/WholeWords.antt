@@ -1,15 +1,6 @@
 -- `assign_words` and `assign_blocks`: whole words of an open block, and whole blocks, given one value by the masks alone.
 -- The words themselves are left as they are, and are stale then. Assumes nothing.
-use mathlib.Core.Path.{_≡_, refl, ap, sym, _∙_, subst, ap₂}
-use mathlib.Core.Bool.{Bool, true, false, not, _&&_, cond, true≢false, false≢true}
-use mathlib.Core.List.{List}
-use Prim.Native.Nat.{ℕ, _+_, _*_, _-_, _/_, _%_, _^_, _≤_, _<_}
-use native.Mathlib.Omega.{arith}
-use lib.Dec.{eqb}
-use lib.Count.{ones}
-use lib.Pow.{pow-mono}
-use native.Mathlib.Nat.{lt-of-lt-of-le}
-use borrow.Author.Tests.{eq-eqb, ne-eqb, eqb-false}
+use Rattle.range_bitset.proofs.Kit.{_≡_, refl, ap, sym, _∙_, subst, ap₂, Bool, true, false, not, _&&_, cond, true≢false, false≢true, List, ℕ, _+_, _*_, _-_, _/_, _%_, _^_, _≤_, _<_, arith, eqb, ones, pow-mono, lt-of-lt-of-le, eq-eqb, ne-eqb, eqb-false}
 use Rattle.positions.specs.Positions.{Positions, within, assigned, count}
 use Rattle.positions.proofs.Ranges.{Place, inside, before, behind, place, within-in, within-before, within-behind, within-shift}
 use Rattle.positions.proofs.Counts.{count-swap, count-same, count-le}

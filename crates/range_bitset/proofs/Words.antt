@@ -1,15 +1,6 @@
 -- A set's words, blocks and counts: what each says of the positions, and what a storage that holds the set reads.
 -- Assumes nothing.
-use mathlib.Core.Path.{_≡_, refl, ap, sym, _∙_, ap₂}
-use mathlib.Core.Bool.{Bool, true, false, not, _&&_, _||_, cond, true≢false}
-use mathlib.Core.List.{List}
-use Prim.Native.Nat.{ℕ, _+_, _*_, _-_, _/_, _%_, _^_, _≤_, _<_}
-use native.Mathlib.Nat.{add-zero}
-use native.Mathlib.Omega.{arith}
-use lib.Dec.{ltb}
-use lib.Count.{ones}
-use lib.Pow.{pow-mono, pow-pos}
-use borrow.Author.Tests.{lt-ltb, eq-eqb, ne-eqb, eqb-true, not-false}
+use Rattle.range_bitset.proofs.Kit.{_≡_, refl, ap, sym, _∙_, ap₂, Bool, true, false, not, _&&_, _||_, cond, true≢false, List, ℕ, _+_, _*_, _-_, _/_, _%_, _^_, _≤_, _<_, add-zero, arith, ltb, ones, pow-mono, pow-pos, lt-ltb, eq-eqb, ne-eqb, eqb-true, not-false}
 use Rattle.positions.specs.Positions.{Positions, count, countFrom}
 use Rattle.positions.proofs.Counts.{countFrom-shift, count-from, count-none, count-all, count-le}
 use Rattle.bits.specs.Bit.{bit}

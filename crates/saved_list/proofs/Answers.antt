@@ -1,10 +1,5 @@
 -- Laws of the answers, from the bytes to the answer: one for each return of the code. Assumes nothing.
-use mathlib.Core.Path.{_≡_}
-use mathlib.Core.Bool.{true, false}
-use mathlib.Core.List.{List, [], _∷_}
-use Prim.Native.Nat.{ℕ, _+_, _*_, _≤_, _<_}
-use borrow.Author.Tests.{lt-ltb, le-ltb, le-leb, lt-leb, ne-eqb}
-use lib.ListN.{length}
+use Rattle.saved_list.proofs.Kit.{_≡_, true, false, List, [], _∷_, ℕ, _+_, _*_, _≤_, _<_, lt-ltb, le-ltb, le-leb, lt-leb, ne-eqb, length}
 use Rattle.saved_list.specs.Format.{runAt, Headed, mark, savedVersion, savedWords, savedCount, Whole, begins, heldCount, firstBadHeld}
 use Rattle.positions.specs.Replies.{Numbers, Refusal}
 use Rattle.saved_list.specs.Answers.{headerReply, lengthReply, runsReply, runReply}

@@ -1,12 +1,5 @@
 -- Laws of the tests on the bytes: each says yes exactly where its property holds. Assumes nothing.
-use mathlib.Core.Path.{_≡_, refl}
-use mathlib.Core.Bool.{Bool, true, false, _&&_, false≢true}
-use mathlib.Core.List.{List, [], _∷_}
-use Prim.Native.Nat.{ℕ, _+_, _*_, _≤_}
-use native.Mathlib.Omega.{arith}
-use borrow.Author.Tests.{leb-true, le-leb, eqb-true, eq-eqb}
-use lib.Dec.{leb, eqb}
-use lib.ListN.{length, getD, take}
+use Rattle.saved_list.proofs.Kit.{_≡_, refl, Bool, true, false, _&&_, false≢true, List, [], _∷_, ℕ, _+_, _*_, _≤_, arith, leb-true, le-leb, eqb-true, eq-eqb, leb, eqb, length, getD, take}
 use Rattle.saved_list.specs.Format.{mark, savedVersion, savedCount, Headed, Whole, begins, headed, whole, heldCount}
 
 -- both halves of a test that says yes

@@ -1,8 +1,5 @@
 -- Small files worked out on the definitions: what each entry must answer, by computation. Assumes nothing.
-use mathlib.Core.Path.{_≡_, refl}
-use mathlib.Core.Bool.{true, false}
-use mathlib.Core.List.{List, [], _∷_, _++_}
-use Prim.Native.Nat.{ℕ}
+use Rattle.saved_list.proofs.Kit.{_≡_, refl, true, false, List, [], _∷_, _++_, ℕ}
 use Rattle.positions.specs.Runs.{run}
 use Rattle.saved_list.specs.Format.{runAt, runsAfter, savedRuns, savedPositions, firstBad, firstBadHeld}
 use Rattle.positions.specs.Replies.{Numbers, Refusal}

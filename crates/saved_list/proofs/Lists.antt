@@ -1,12 +1,6 @@
 -- Laws of a file's list of runs: its length, one run more, the set that the runs give when assigned
 -- one after the other, and that a good file's runs are the longest stretches of its set. Assumes nothing.
-use mathlib.Core.Path.{_≡_, refl, sym, ap, _∙_, fun-ext}
-use mathlib.Core.Bool.{Bool, true, false, cond}
-use mathlib.Core.List.{List, [], _∷_, _++_}
-use Prim.Native.Nat.{ℕ, zero, suc, _+_}
-use native.Mathlib.Nat.{add-zero, zero-add, add-suc, suc-add}
-use native.Mathlib.Omega.{arith}
-use lib.ListN.{length}
+use Rattle.saved_list.proofs.Kit.{_≡_, refl, sym, ap, _∙_, fun-ext, Bool, true, false, cond, List, [], _∷_, _++_, ℕ, zero, suc, _+_, add-zero, zero-add, add-suc, suc-add, arith, length}
 use Rattle.positions.specs.Positions.{Positions, none, assigned, count}
 use Rattle.positions.specs.Runs.{Run, runs, assignedRuns, covered, lengths}
 use Rattle.positions.proofs.Changes.{assignedRuns-then}

@@ -1,12 +1,6 @@
 -- Laws for whoever opens a file, from the answers to the bytes: what an accepted header, length and run rule say, what each
 -- refusal says, and that the three accept exactly the good files. Assumes nothing.
-use mathlib.Core.Path.{_≡_, refl, sym, _∙_}
-use mathlib.Core.Bool.{Bool, true, false, cond}
-use mathlib.Core.List.{List, [], _∷_}
-use Prim.Native.Nat.{ℕ, _+_, _*_, _≤_, _<_}
-use native.Mathlib.Omega.{arith}
-use borrow.Author.Tests.{ltb-true, ltb-false}
-use lib.Dec.{ltb}
+use Rattle.saved_list.proofs.Kit.{_≡_, refl, sym, _∙_, Bool, true, false, cond, List, [], _∷_, ℕ, _+_, _*_, _≤_, _<_, arith, ltb-true, ltb-false, ltb}
 use Rattle.positions.proofs.Replies.{numbers-refusal}
 use Rattle.positions.specs.Runs.{run, Ascending}
 use Rattle.saved_list.specs.Format.{be32, savedWords, savedCount, savedCapacity, runAt, savedRuns, Headed, Whole, Good, firstBadRun, headed, whole, heldCount, firstBadHeld}

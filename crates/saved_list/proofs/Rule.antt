@@ -1,15 +1,6 @@
 -- Laws of the run rule: the first bad index is the list's length exactly where the runs ascend, and it is where they
 -- first fail to. Assumes nothing.
-use mathlib.Core.Path.{_≡_, refl, sym, ap, _∙_}
-use mathlib.Core.Bool.{Bool, true, false, cond, _&&_, false≢true}
-use mathlib.Core.List.{List, [], _∷_}
-use Prim.Native.Nat.{ℕ, suc, _+_, _-_, _*_, _≤_, _<_}
-use native.Mathlib.Nat.{add-zero, zero-add}
-use native.Mathlib.Numerals.{add-one}
-use native.Mathlib.Omega.{arith}
-use borrow.Author.Tests.{leb-true, le-leb, ltb-true, lt-ltb}
-use lib.Dec.{leb, ltb}
-use lib.ListN.{length, take}
+use Rattle.saved_list.proofs.Kit.{_≡_, refl, sym, ap, _∙_, Bool, true, false, cond, _&&_, false≢true, List, [], _∷_, ℕ, suc, _+_, _-_, _*_, _≤_, _<_, add-zero, zero-add, add-one, arith, leb-true, le-leb, ltb-true, lt-ltb, leb, ltb, length, take}
 use Rattle.positions.specs.Runs.{Run, run, Ascending}
 use Rattle.saved_list.specs.Format.{be32, savedCapacity, runAt, runsAfter, ruled, firstBad, heldCount, firstBadHeld}
 use Rattle.saved_list.proofs.Bytes.{both}

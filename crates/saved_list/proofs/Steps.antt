@@ -1,12 +1,5 @@
 -- One step of the reader: what the answer says of the index. Assumes nothing.
-use mathlib.Core.Path.{_≡_, refl, ap}
-use mathlib.Core.Bool.{Bool, true, false, cond}
-use mathlib.Core.List.{List, [], _∷_}
-use Prim.Native.Nat.{ℕ, _+_, _≤_}
-use native.Mathlib.Omega.{arith}
-use borrow.Author.Tests.{ltb-true}
-use lib.Dec.{ltb}
-use lib.ListN.{length}
+use Rattle.saved_list.proofs.Kit.{_≡_, refl, ap, Bool, true, false, cond, List, [], _∷_, ℕ, _+_, _≤_, arith, ltb-true, ltb, length}
 use Rattle.saved_list.specs.Format.{runAt, heldCount}
 use Rattle.positions.specs.Replies.{Reply, Numbers, Refusal}
 use Rattle.saved_list.specs.Answers.{ofFoundRun, runReply, indexAfter}

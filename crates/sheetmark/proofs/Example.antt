@@ -1,8 +1,5 @@
 -- 01's example of `sheetmark`: its input lines, and what the plain program prints for them, computed. Assumes nothing.
-use mathlib.Core.Path.{_≡_, refl}
-use mathlib.Core.List.{List, [], _∷_}
-use Prim.Native.Nat.{ℕ}
-use lib.Count.{ones}
+use Rattle.sheetmark.proofs.Kit.{_≡_, refl, List, [], _∷_, ℕ, ones}
 use Rattle.positions.specs.Positions.{assigned, total, sumOver, countFrom, count, firstFrom, first, changedCount}
 use Rattle.positions.specs.Runs.{runsFrom, runs, changedRuns}
 use Rattle.range_bitset.specs.Layout.{allowed}

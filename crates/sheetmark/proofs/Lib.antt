@@ -1,4 +1,5 @@
 -- The program's laws. Assumes nothing.
+mod Kit
 pub mod Performing
 pub mod Answering
 pub mod Program

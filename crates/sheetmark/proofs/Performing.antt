@@ -1,14 +1,6 @@
 -- Laws of performing a command: each arm's promise from the call that it makes; a found position cut to 32 bits is the
 -- position. Assumes nothing.
-use mathlib.Core.Path.{_≡_, refl, sym, ap, _∙_, subst}
-use mathlib.Core.Bool.{Bool, true, false}
-use mathlib.Core.Logic.{inl, inr}
-use mathlib.Core.List.{List, [], _∷_}
-use Prim.Native.Nat.{ℕ, _*_, _≤_}
-use native.Mathlib.Omega.{arith}
-use lib.ListN.{length}
-use types.Run.{OneOf}
-use denote.Enum.Declared.{tagOf}
+use Rattle.sheetmark.proofs.Kit.{_≡_, refl, sym, ap, _∙_, subst, Bool, true, false, inl, inr, List, [], _∷_, ℕ, _*_, _≤_, arith, length, OneOf, tagOf}
 use Rattle.positions.specs.Positions.{Positions, Place, first, count}
 use Rattle.positions.proofs.Searches.{Searched, hit, miss, first-means}
 use Rattle.positions.specs.Replies.{Reply, number, ofPlace}

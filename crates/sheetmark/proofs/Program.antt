@@ -1,12 +1,5 @@
 -- A run of the program is the plain program's: one command, lines, the parts of an input. Assumes nothing.
-use mathlib.Core.Path.{_≡_, refl, sym, ap, _∙_, subst, ap₂}
-use mathlib.Core.Bool.{Bool, true, false, _&&_, cond}
-use mathlib.Core.List.{List, [], _∷_, _++_, append-assoc, append-nil}
-use Prim.Native.Nat.{ℕ, _+_, _-_, _/_, _%_, _^_, _≤_, _<_}
-use native.Mathlib.Omega.{arith}
-use lib.Dec.{eqb, leb}
-use lib.ListN.{length, length-append}
-use borrow.Author.Tests.{le-leb, leb-true}
+use Rattle.sheetmark.proofs.Kit.{_≡_, refl, sym, ap, _∙_, subst, ap₂, Bool, true, false, _&&_, cond, List, [], _∷_, _++_, append-assoc, append-nil, ℕ, _+_, _-_, _/_, _%_, _^_, _≤_, _<_, arith, eqb, leb, length, length-append, le-leb, leb-true}
 use Rattle.positions.specs.Positions.{Positions, count, first}
 use Rattle.positions.proofs.Bools.{and-left, and-right}
 use Rattle.range_bitset.specs.Layout.{allowed, needed}

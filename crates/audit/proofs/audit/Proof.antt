@@ -1,8 +1,6 @@
 -- `audit::audit` meets its contract. Assumes nothing.
 use Rattle.audit.proofs.Audits.{audit-declined, audit-fresh, audit-sound, audit-unsound}
-use mathlib.Core.Path.{sym, _∙_}
-use borrow.Author.Tests.{not-true, not-false}
-use borrow.Author.Needs.{needs}
+use Rattle.audit.proofs.Kit.{sym, _∙_, not-true, not-false, needs}
 use Rattle.audit.proofs.audit.Statement.{statement}
 use Rattle.audit.proofs.audit.Tie as tie
 

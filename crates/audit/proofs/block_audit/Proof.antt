@@ -2,8 +2,7 @@
 use Rattle.audit.proofs.Audits.{unsound, empty-told, full-told, block-words, mixed-sound, mixed-unsound, block-not-refused}
 use Rattle.audit.specs.Sound.{Words}
 use Rattle.range_bitset.proofs.Heads.{accepted}
-use native.Mathlib.Omega.{arith}
-use borrow.Author.Needs.{needs}
+use Rattle.audit.proofs.Kit.{arith, needs}
 use Rattle.audit.proofs.block_audit.Statement.{statement}
 use Rattle.audit.proofs.block_audit.Tie as tie
 

@@ -5,10 +5,7 @@ use Rattle.range_bitset.specs.Layout.{blocks}
 use Rattle.range_bitset.proofs.Heads.{accepted}
 use Rattle.range_bitset.proofs.Words.{block-most}
 use Rattle.positions.specs.Positions.{count}
-use mathlib.Core.Path.{_≡_, _∙_, ap₂}
-use borrow.Author.Needs.{needs}
-use native.Mathlib.Omega.{arith}
-use Prim.Native.Nat.{_+_, _*_, _≤_, _-_}
+use Rattle.audit.proofs.Kit.{_≡_, _∙_, ap₂, needs, arith, _+_, _*_, _≤_, _-_}
 use Rattle.audit.specs.Sound.{plain}
 use Rattle.audit.specs.Inner.{SoundBlocks}
 use Rattle.audit.proofs.blocks_audit.Statement.{statement}

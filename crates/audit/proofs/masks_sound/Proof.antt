@@ -1,7 +1,6 @@
 -- `audit::masks_sound` meets its contract. Assumes nothing.
 use Rattle.audit.proofs.AuditBlocks.{masks-over, masks-told}
-use borrow.Author.Tests.{not-true, not-false}
-use borrow.Author.Needs.{needs}
+use Rattle.audit.proofs.Kit.{not-true, not-false, needs}
 use Rattle.audit.proofs.masks_sound.Statement.{statement}
 use Rattle.audit.proofs.masks_sound.Tie as tie
 

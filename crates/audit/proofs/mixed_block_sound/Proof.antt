@@ -1,7 +1,6 @@
 -- `audit::mixed_block_sound` meets its contract. Assumes nothing.
 use Rattle.audit.proofs.AuditBlocks.{told-not, mixed-told, stored-in}
-use borrow.Author.Tests.{not-true, not-false}
-use borrow.Author.Needs.{needs}
+use Rattle.audit.proofs.Kit.{not-true, not-false, needs}
 use Rattle.audit.proofs.mixed_block_sound.Statement.{statement}
 use Rattle.audit.proofs.mixed_block_sound.Tie as tie
 

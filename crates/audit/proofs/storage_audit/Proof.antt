@@ -1,9 +1,7 @@
 -- `audit::storage_audit` meets its contract. Assumes nothing.
 use Rattle.audit.proofs.Audits.{unsound, tops-not-refused, tops-stop, storage-told}
 use Rattle.audit.specs.Sound.{Words}
-use borrow.Author.Tests.{not-true, not-false}
-use native.Mathlib.Omega.{arith}
-use borrow.Author.Needs.{needs}
+use Rattle.audit.proofs.Kit.{not-true, not-false, arith, needs}
 use Rattle.audit.proofs.storage_audit.Statement.{statement}
 use Rattle.audit.proofs.storage_audit.Tie as tie
 

@@ -1,8 +1,7 @@
 -- `audit::stored_words_sound` meets its contract. The invariant: what is left is a part of the mask, and
 -- the words past are neither 0 nor all ones. The measure is the mask that is left. Assumes nothing.
 use Rattle.audit.proofs.AuditBlocks.{Passed, walk-first, walk-at, walk-zero, walk-ones, walk-next, walk-last}
-use native.Mathlib.Omega.{arith}
-use lib.Count.{trailing-le}
+use Rattle.audit.proofs.Kit.{arith, trailing-le}
 use Rattle.bits.proofs.Ones.{drop-lowest-lt}
 use Rattle.audit.proofs.stored_words_sound.Statement.{statement}
 use Rattle.audit.proofs.stored_words_sound.Tie as tie

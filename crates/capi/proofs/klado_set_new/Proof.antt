@@ -1,7 +1,6 @@
 -- `capi::klado_set_new` answers what `RangeBitset::new` does. Assumes nothing.
 use Rattle.capi.specs.Told.{toldMade}
-use mathlib.Core.Path.{ap, _∙_}
-use borrow.Author.Needs.{needs}
+use Rattle.capi.proofs.Kit.{ap, _∙_, needs}
 use Rattle.capi.proofs.klado_set_new.Statement.{statement}
 use Rattle.capi.proofs.klado_set_new.Tie as tie
 

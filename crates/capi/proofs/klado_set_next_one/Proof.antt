@@ -1,11 +1,10 @@
 -- `capi::klado_set_next_one` answers what `RangeBitset::next_one` does. Assumes nothing.
-use mathlib.Core.Bool.{true}
+use Rattle.capi.proofs.Kit.{true, needs}
 use Rattle.capi.specs.declared.KladoFound.{KladoFound}
 use Rattle.range_bitset.specs.declared.Found.{Found}
 use Rattle.capi.specs.Told.{toldFound}
 use Rattle.range_bitset.specs.Entries.{NextEnsures}
 use Rattle.capi.proofs.Telling.{telling}
-use borrow.Author.Needs.{needs}
 use Rattle.capi.proofs.klado_set_next_one.Statement.{statement}
 use Rattle.capi.proofs.klado_set_next_one.Tie as tie
 

@@ -1,7 +1,6 @@
 -- `capi::of_counted` meets its contract: one line of toldCounted for each case. Assumes nothing.
 use Rattle.capi.specs.Told.{toldCounted}
-use mathlib.Core.Path.{ap, sym}
-use borrow.Author.Needs.{needs}
+use Rattle.capi.proofs.Kit.{ap, sym, needs}
 use Rattle.capi.proofs.of_counted.Statement.{statement}
 use Rattle.capi.proofs.of_counted.Tie as tie
 

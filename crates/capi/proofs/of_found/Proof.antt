@@ -1,7 +1,6 @@
 -- `capi::of_found` meets its contract: one line of toldFound for each case. Assumes nothing.
 use Rattle.capi.specs.Told.{toldFound}
-use mathlib.Core.Path.{ap, sym}
-use borrow.Author.Needs.{needs}
+use Rattle.capi.proofs.Kit.{ap, sym, needs}
 use Rattle.capi.proofs.of_found.Statement.{statement}
 use Rattle.capi.proofs.of_found.Tie as tie
 

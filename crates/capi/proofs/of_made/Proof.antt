@@ -2,8 +2,7 @@
 use Rattle.capi.specs.declared.KladoSetAnswer.{KladoSetAnswer}
 use Rattle.capi.specs.declared.KladoSet.{KladoSet}
 use Rattle.capi.specs.Told.{toldMade}
-use mathlib.Core.Path.{ap, sym, _∙_}
-use borrow.Author.Needs.{needs}
+use Rattle.capi.proofs.Kit.{ap, sym, _∙_, needs}
 use Rattle.capi.proofs.of_made.Statement.{statement}
 use Rattle.capi.proofs.of_made.Tie as tie
 

@@ -1,8 +1,7 @@
 -- `capi::of_tested` meets its contract: one line of toldTested for each case. Assumes nothing.
 use Rattle.capi.specs.Told.{toldTested}
-use mathlib.Core.Path.{ap, sym, _∙_}
+use Rattle.capi.proofs.Kit.{ap, sym, _∙_, needs}
 use Rattle.range_bitset.specs.declared.Tested.the-variants as tested
-use borrow.Author.Needs.{needs}
 use Rattle.capi.proofs.of_tested.Statement.{statement}
 use Rattle.capi.proofs.of_tested.Tie as tie
 

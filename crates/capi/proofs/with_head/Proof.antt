@@ -1,8 +1,7 @@
 -- `capi::with_head` meets its contract. Assumes nothing.
 use Rattle.capi.specs.declared.KladoSetAnswer.{KladoSetAnswer}
 use Rattle.capi.specs.declared.KladoSet.{KladoSet}
-use mathlib.Core.Path.{ap}
-use borrow.Author.Needs.{needs}
+use Rattle.capi.proofs.Kit.{ap, needs}
 use Rattle.capi.proofs.with_head.Statement.{statement}
 use Rattle.capi.proofs.with_head.Tie as tie
 

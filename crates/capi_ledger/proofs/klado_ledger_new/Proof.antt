@@ -1,7 +1,6 @@
 -- `capi_ledger::klado_ledger_new` answers what `Ledger::new` does. Assumes nothing.
-use mathlib.Core.Path.{ap, _∙_}
+use Rattle.capi_ledger.proofs.Kit.{ap, _∙_, needs}
 use Rattle.capi_ledger.specs.LedgerTold.{toldOpened}
-use borrow.Author.Needs.{needs}
 use Rattle.capi_ledger.proofs.klado_ledger_new.Statement.{statement}
 use Rattle.capi_ledger.proofs.klado_ledger_new.Tie as tie
 

@@ -1,8 +1,7 @@
 -- `capi_ledger::ledger_head` meets its contract. Assumes nothing.
-use mathlib.Core.Path.{ap}
+use Rattle.capi_ledger.proofs.Kit.{ap, needs}
 use Rattle.capi.specs.declared.KladoSet.{KladoSet}
 use Rattle.capi_ledger.specs.declared.KladoLedger.{KladoLedger}
-use borrow.Author.Needs.{needs}
 use Rattle.capi_ledger.proofs.ledger_head.Statement.{statement}
 use Rattle.capi_ledger.proofs.ledger_head.Tie as tie
 

@@ -1,8 +1,7 @@
 -- `capi_ledger::ledger_of` meets its contract. Assumes nothing.
-use mathlib.Core.Path.{ap}
+use Rattle.capi_ledger.proofs.Kit.{ap, needs}
 use Rattle.range_bitset.specs.declared.RangeBitset.{RangeBitset}
 use Rattle.ledger.specs.declared.Ledger.{Ledger}
-use borrow.Author.Needs.{needs}
 use Rattle.capi_ledger.proofs.ledger_of.Statement.{statement}
 use Rattle.capi_ledger.proofs.ledger_of.Tie as tie
 

@@ -1,9 +1,8 @@
 -- `capi_ledger::of_opened` meets its contract: one line of toldOpened for each case. Assumes nothing.
-use mathlib.Core.Path.{ap, sym, _∙_}
+use Rattle.capi_ledger.proofs.Kit.{ap, sym, _∙_, needs}
 use Rattle.capi_ledger.specs.LedgerTold.{toldOpened}
 use Rattle.capi_ledger.specs.declared.KladoLedger.{KladoLedger}
 use Rattle.capi_ledger.specs.declared.KladoOpened.{KladoOpened}
-use borrow.Author.Needs.{needs}
 use Rattle.capi_ledger.proofs.of_opened.Statement.{statement}
 use Rattle.capi_ledger.proofs.of_opened.Tie as tie
 

@@ -1,12 +1,7 @@
 -- `command_lines::put_number` meets its contract: the digits before the last are those of n / 10. The measure is n. Assumes nothing.
-use mathlib.Core.Path.{ap}
-use native.Mathlib.Omega.{arith}
-use lib.ListN.{length, length-set}
+use Rattle.command_lines.proofs.Kit.{ap, arith, length, length-set, ℕ, _<_, In, Measures, is, falls, and}
 use Rattle.command_lines.proofs.Decimals.{digits-one, length-more, length-pos}
 use Rattle.command_lines.proofs.Filling.{set-last, set-only}
-use Prim.Native.Nat.{ℕ, _<_}
-use borrow.Fn.Kinds.{In}
-use borrow.Fn.PlainCycle.{Measures, is, falls, and}
 use Rattle.command_lines.proofs.put_number.Reads as put-number
 use Rattle.command_lines.proofs.put_number.Kinds as put-number-kinds
 use Rattle.command_lines.proofs.+put_number.Lts-put_number as put-number-lts

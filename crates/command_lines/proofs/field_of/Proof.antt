@@ -1,9 +1,6 @@
 -- `command_lines::field_of` meets its contract: each return is the case of `finish` that its tests say. Assumes nothing.
-use borrow.Author.Tests.{eq-eqb, ne-eqb, lt-ltb, le-ltb}
-use native.Mathlib.Omega.{arith}
-use Prim.Native.Nat.{_^_}
+use Rattle.command_lines.proofs.Kit.{eq-eqb, ne-eqb, lt-ltb, le-ltb, arith, _^_, needs}
 use Rattle.command_lines.specs.Inner.{finish}
-use borrow.Author.Needs.{needs}
 use Rattle.command_lines.proofs.field_of.Statement.{statement}
 use Rattle.command_lines.proofs.field_of.Tie as tie
 

@@ -1,9 +1,6 @@
 -- `command_lines::gather` meets its contract. The invariant: gathering the rest of the text gives what gathering it all gives.
 -- The measure: what is left of the text. Assumes nothing.
-use Prim.Native.Nat.{_-_}
-use native.Mathlib.Omega.{arith}
-use borrow.Author.Needs.{needs}
-use lib.ListN.{length}
+use Rattle.command_lines.proofs.Kit.{_-_, arith, needs, length}
 use Rattle.command_lines.proofs.Gathering.{Rest, rest-start, rest-more, rest-newline, rest-end}
 use Rattle.command_lines.proofs.gather.Statement.{statement}
 use Rattle.command_lines.proofs.gather.Tie as tie

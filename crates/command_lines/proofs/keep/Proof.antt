@@ -1,8 +1,5 @@
 -- `command_lines::keep` meets its contract. Assumes nothing.
-use mathlib.Core.Path.{refl, sym}
-use lib.Seq.{set-out}
-use borrow.Author.Tests.{lt-ltb, le-ltb}
-use borrow.Author.Needs.{needs}
+use Rattle.command_lines.proofs.Kit.{refl, sym, set-out, lt-ltb, le-ltb, needs}
 use Rattle.command_lines.proofs.keep.Statement.{statement}
 use Rattle.command_lines.proofs.keep.Tie as tie
 

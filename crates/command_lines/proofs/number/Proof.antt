@@ -1,13 +1,6 @@
 -- `command_lines::number` meets its contract. The invariant: the digits from..at, at most ten, have the value `value`, and
 -- with what follows they decide what the field reads. The measure: what is left of the line. Assumes nothing.
-use mathlib.Core.Path.{_≡_, sym, _∙_}
-use Prim.Native.Nat.{ℕ, _+_, _≤_, _<_, _-_, _^_}
-use native.Mathlib.Nat.{sub-self}
-use native.Mathlib.Omega.{arith}
-use lib.ListN.{length, drop}
-use lib.Dec.{lit<}
-use lib.Arith.{lt-of-le-ne}
-use borrow.Author.Needs.{needs}
+use Rattle.command_lines.proofs.Kit.{_≡_, sym, _∙_, ℕ, _+_, _≤_, _<_, _-_, _^_, sub-self, arith, length, drop, lit<, lt-of-le-ne, needs}
 use Rattle.command_lines.specs.Inner.{readAt}
 use Rattle.command_lines.proofs.Fields.{first-space, first-end}
 use Rattle.command_lines.proofs.NumberFields.{ahead, ahead-none, ahead-end, ahead-digit, ahead-low, ahead-high, ahead-ten, below-ten, below-digit}

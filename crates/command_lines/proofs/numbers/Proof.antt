@@ -1,7 +1,6 @@
 -- `command_lines::numbers` meets its contract: each return is a law of the two fields that were read. Assumes nothing.
-use mathlib.Core.Path.{sym, _∙_}
+use Rattle.command_lines.proofs.Kit.{sym, _∙_, needs}
 use Rattle.command_lines.proofs.Pairs.{no-first, no-second-field, no-second, a-third, two-numbers}
-use borrow.Author.Needs.{needs}
 use Rattle.command_lines.proofs.numbers.Statement.{statement}
 use Rattle.command_lines.proofs.numbers.Tie as tie
 

@@ -1,10 +1,8 @@
 -- `command_lines::parse` meets its contract: at each return the tests that led there say with which keyword the line starts,
 -- or that it starts with none. Assumes nothing.
-use mathlib.Core.Path.{refl, sym, ap, _∙_}
-use denote.Ref.{now}
+use Rattle.command_lines.proofs.Kit.{refl, sym, ap, _∙_, now, needs}
 use Rattle.command_lines.specs.Lines.{fields, meaning, with, mark, clear, count, one, zero, new, back, wipe}
 use Rattle.command_lines.proofs.Meaning.{keyword-line, alone-line, bad-line, not-four, not-alone, Keywordless}
-use borrow.Author.Needs.{needs}
 use Rattle.command_lines.proofs.parse.Statement.{statement}
 use Rattle.command_lines.proofs.parse.Tie as tie
 

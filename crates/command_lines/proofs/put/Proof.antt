@@ -1,11 +1,6 @@
 -- `command_lines::put` meets its contract. The invariant: storing what is left of the text gives the text stored whole. The
 -- measure: what is left of the text. Assumes nothing.
-use mathlib.Core.Path.{_≡_, refl, sym, _∙_}
-use Prim.Native.Nat.{_+_, _≤_, _-_}
-use native.Mathlib.Nat.{add-zero}
-use native.Mathlib.Omega.{arith}
-use lib.ListN.{length, drop, length-set}
-use lib.Seq.{sets}
+use Rattle.command_lines.proofs.Kit.{_≡_, refl, sym, _∙_, _+_, _≤_, _-_, add-zero, arith, length, drop, length-set, sets}
 use Rattle.command_lines.proofs.Filling.{sets-next, sets-end}
 use Rattle.command_lines.proofs.put.Statement.{statement}
 use Rattle.command_lines.proofs.put.Tie as tie

@@ -1,14 +1,8 @@
 -- `command_lines::put_answer` meets its contract: each arm puts the text of its answer. Assumes nothing.
-use mathlib.Core.Logic.{⊎-elim}
-use Prim.Native.Nat.{_+_, _-_, _≤_}
-use native.Mathlib.Omega.{arith}
-use lib.ListN.{length, length-append}
-use denote.Ref.{now}
+use Rattle.command_lines.proofs.Kit.{⊎-elim, _+_, _-_, _≤_, arith, length, length-append, now, ltb-true, ltb-false, needs}
 use Rattle.command_lines.specs.Answers.{digits}
-use borrow.Author.Tests.{ltb-true, ltb-false}
 use Rattle.command_lines.proofs.Decimals.{length-ten, length-three}
 use Rattle.command_lines.proofs.Filling.{put-none, put-all, put-refused}
-use borrow.Author.Needs.{needs}
 use Rattle.command_lines.proofs.put_answer.Statement.{statement}
 use Rattle.command_lines.proofs.put_answer.Tie as tie
 

@@ -1,10 +1,7 @@
 -- `command_lines::put_number_line` meets its contract. Assumes nothing.
-use mathlib.Core.List.{[], _∷_}
-use native.Mathlib.Omega.{arith}
-use lib.ListN.{length-append}
+use Rattle.command_lines.proofs.Kit.{[], _∷_, arith, length-append, needs}
 use Rattle.command_lines.specs.Answers.{digits}
 use Rattle.command_lines.proofs.Filling.{set-newline}
-use borrow.Author.Needs.{needs}
 use Rattle.command_lines.proofs.put_number_line.Statement.{statement}
 use Rattle.command_lines.proofs.put_number_line.Tie as tie
 

@@ -1,9 +1,6 @@
 -- `command_lines::starts_with` meets its contract. The invariant: what is left of start and line decides. The measure: what
 -- is left of the start. Assumes nothing.
-use mathlib.Core.Path.{_≡_, refl, sym, _∙_}
-use Prim.Native.Nat.{_-_}
-use native.Mathlib.Omega.{arith}
-use lib.ListN.{length, drop}
+use Rattle.command_lines.proofs.Kit.{_≡_, refl, sym, _∙_, _-_, arith, length, drop}
 use Rattle.command_lines.specs.Inner.{starts}
 use Rattle.command_lines.proofs.Texts.{starts-next, starts-differ, starts-short, starts-whole}
 use Rattle.command_lines.proofs.starts_with.Statement.{statement}

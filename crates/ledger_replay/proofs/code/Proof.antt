@@ -1,6 +1,5 @@
 -- `code` meets its contract. Assumes nothing.
-use mathlib.Core.Path.{sym, ap}
-use borrow.Author.Needs.{needs}
+use Rattle.ledger_replay.proofs.Kit.{sym, ap, needs}
 use Rattle.ledger_replay.specs.Replay.{codeOf}
 use Rattle.range_bitset.specs.Answers.{ofCounted}
 use Rattle.range_bitset.specs.declared.Counted.{Counted}

@@ -1,6 +1,5 @@
 -- `replay` meets its contract. Assumes nothing.
-use native.Mathlib.Omega.{arith}
-use borrow.Author.Needs.{needs}
+use Rattle.ledger_replay.proofs.Kit.{arith, needs}
 use Rattle.ledger_replay.proofs.Replays.{continues-ran, continues-refused, continues-bad, continued}
 use Rattle.ledger_replay.proofs.replay.Statement.{statement}
 use Rattle.ledger_replay.proofs.replay.Tie as tie

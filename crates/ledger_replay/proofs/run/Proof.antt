@@ -1,9 +1,5 @@
 -- `run` meets its contract. The loop's invariant: the calls before `i` are a chain. Assumes nothing.
-use mathlib.Core.Path.{_≡_}
-use Prim.Native.Nat.{_*_, _-_, _≤_, _<_}
-use native.Mathlib.Omega.{arith}
-use lib.ListN.{length}
-use borrow.Author.Needs.{needs}
+use Rattle.ledger_replay.proofs.Kit.{_≡_, _*_, _-_, _≤_, _<_, arith, length, needs}
 use Rattle.ledger_replay.specs.Replay.{encoded}
 use Rattle.ledger.specs.Memory.{memory}
 use Rattle.ledger_replay.specs.Inner.{Chained}

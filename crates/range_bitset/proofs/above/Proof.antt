@@ -1,13 +1,5 @@
 -- `bits::above` meets its contract. Assumes nothing.
-use mathlib.Core.Path.{ap}
-use mathlib.Core.Bool.{_&&_}
-use lib.Dec.{leb, ltb}
-use Prim.Native.Nat.{ℕ}
-use native.Mathlib.Numerals.{add-one}
-use borrow.Author.Needs.{needs}
-use mathlib.Core.Path.{sym, _∙_}
-use Prim.Native.Nat.{_+_}
-use native.Mathlib.Omega.{arith}
+use Rattle.range_bitset.proofs.Kit.{ap, _&&_, leb, ltb, ℕ, add-one, needs, sym, _∙_, _+_, arith}
 use Rattle.bits.proofs.Bits.{bit-zero}
 use Rattle.bits.proofs.Masks.{bit-from, none-above}
 use Rattle.range_bitset.proofs.above.Statement.{statement}

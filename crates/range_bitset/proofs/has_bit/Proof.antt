@@ -1,8 +1,6 @@
 -- `range_bitset::has_bit` meets its contract. Assumes nothing.
-use mathlib.Core.Bool.{Bool·not-not, not}
-use mathlib.Core.Path.{ap, _∙_}
+use Rattle.range_bitset.proofs.Kit.{Bool·not-not, not, ap, _∙_, needs}
 use Rattle.bits.proofs.Masks.{test-shifted}
-use borrow.Author.Needs.{needs}
 use Rattle.range_bitset.proofs.has_bit.Statement.{statement}
 use Rattle.range_bitset.proofs.has_bit.Tie as tie
 

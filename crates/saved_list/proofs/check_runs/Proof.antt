@@ -1,11 +1,6 @@
 -- `saved_list::check_runs` meets its contract. The loop's invariant: the runs before `index` are good, and the rest decides
 -- (`Reached`). The measure is the number of bytes left. Assumes nothing.
-use mathlib.Core.Path.{_≡_, sym, ap, _∙_}
-use Prim.Native.Nat.{ℕ, _+_, _-_, _*_, _≤_}
-use native.Mathlib.Omega.{arith}
-use lib.ListN.{length}
-use borrow.Author.Tests.{not-true, not-false}
-use borrow.Author.Needs.{needs}
+use Rattle.saved_list.proofs.Kit.{_≡_, sym, ap, _∙_, ℕ, _+_, _-_, _*_, _≤_, arith, length, not-true, not-false, needs}
 use Rattle.positions.specs.Runs.{run}
 use Rattle.saved_list.specs.Format.{savedCapacity}
 use Rattle.saved_list.proofs.Rule.{ruled-yes, Reached, reached-start, reached-next, reached-bad, reached-end}

@@ -1,7 +1,6 @@
 -- `saved_list::has_mark` meets its contract: the letters are compared one by one (`begins-at`). Assumes nothing.
-use borrow.Author.Tests.{eq-eqb, ne-eqb}
+use Rattle.saved_list.proofs.Kit.{eq-eqb, ne-eqb, needs}
 use Rattle.saved_list.proofs.Bytes.{begins-at}
-use borrow.Author.Needs.{needs}
 use Rattle.saved_list.proofs.has_mark.Statement.{statement}
 use Rattle.saved_list.proofs.has_mark.Tie as tie
 

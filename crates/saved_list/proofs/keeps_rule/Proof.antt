@@ -1,6 +1,5 @@
 -- `saved_list::keeps_rule` meets its contract: each test is one of the rule's three. Assumes nothing.
-use borrow.Author.Needs.{needs}
-use borrow.Author.Tests.{lt-leb, le-leb, le-ltb, lt-ltb}
+use Rattle.saved_list.proofs.Kit.{needs, lt-leb, le-leb, le-ltb, lt-ltb}
 use Rattle.saved_list.proofs.keeps_rule.Statement.{statement}
 use Rattle.saved_list.proofs.keeps_rule.Tie as tie
 

@@ -1,7 +1,5 @@
 -- `saved_list::step_at`: the run of `run_at`, and the index moved on where there is one. Assumes nothing.
-use mathlib.Core.Path.{ap, sym, _∙_}
-use native.Mathlib.Omega.{arith}
-use borrow.Author.Needs.{needs}
+use Rattle.saved_list.proofs.Kit.{ap, sym, _∙_, arith, needs}
 use Rattle.saved_list.specs.Answers.{ofFoundRun}
 use Rattle.saved_list.proofs.Steps.{run-below, at-moves, end-stays}
 use Rattle.saved_list.proofs.step_at.Statement.{statement}

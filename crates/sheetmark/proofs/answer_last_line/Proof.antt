@@ -1,7 +1,6 @@
 -- `answer_last_line` meets its contract. Assumes nothing.
 use Rattle.sheetmark.proofs.Answering.{end-none, end-line}
-use native.Mathlib.Omega.{arith}
-use borrow.Author.Needs.{needs}
+use Rattle.sheetmark.proofs.Kit.{arith, needs}
 use Rattle.sheetmark.proofs.answer_last_line.Statement.{statement}
 use Rattle.sheetmark.proofs.answer_last_line.Tie as tie
 

@@ -1,9 +1,7 @@
 -- `answer_line` meets its contract: the promises of the three calls that it makes. Assumes nothing.
 use Rattle.sheetmark.proofs.Performing.{performed}
-use mathlib.Core.Path.{refl, sym, _∙_}
-use denote.Ref.{now}
+use Rattle.sheetmark.proofs.Kit.{refl, sym, _∙_, now, needs}
 use Rattle.command_lines.proofs.Filling.{put-there}
-use borrow.Author.Needs.{needs}
 use Rattle.sheetmark.proofs.answer_line.Statement.{statement}
 use Rattle.sheetmark.proofs.answer_line.Tie as tie
 

@@ -1,12 +1,6 @@
 -- `answer_part` meets its contract. The invariant: the part is answered up to `at`, with at most 12 bytes of output for each byte
 -- of it. The measure: what is left of the text. Assumes nothing.
-use mathlib.Core.Path.{_≡_, refl, sym, _∙_}
-use mathlib.Core.List.{List}
-use Prim.Native.Nat.{ℕ, _*_, _-_, _≤_}
-use native.Mathlib.Omega.{arith}
-use borrow.Author.Needs.{needs}
-use lib.ListN.{length}
-use lib.Seq.{length-take-le}
+use Rattle.sheetmark.proofs.Kit.{_≡_, refl, sym, _∙_, List, ℕ, _*_, _-_, _≤_, arith, needs, length, length-take-le}
 use Rattle.command_lines.specs.Input.{Buffered}
 use Rattle.command_lines.proofs.Buffers.{gathers-moves, gathers-fits}
 use Rattle.sheetmark.specs.Answering.{state}

@@ -1,6 +1,5 @@
 -- `answer_read` meets its contract. Assumes nothing.
-use native.Mathlib.Omega.{arith}
-use borrow.Author.Needs.{needs}
+use Rattle.sheetmark.proofs.Kit.{arith, needs}
 use Rattle.sheetmark.proofs.answer_read.Statement.{statement}
 use Rattle.sheetmark.proofs.answer_read.Tie as tie
 

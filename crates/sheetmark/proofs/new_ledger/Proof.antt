@@ -1,7 +1,6 @@
 -- `new_ledger` meets its contract. Assumes nothing.
 use Rattle.sheetmark.proofs.Performing.{started}
-use mathlib.Core.Path.{refl, sym, _∙_}
-use borrow.Author.Needs.{needs}
+use Rattle.sheetmark.proofs.Kit.{refl, sym, _∙_, needs}
 use Rattle.sheetmark.proofs.new_ledger.Statement.{statement}
 use Rattle.sheetmark.proofs.new_ledger.Tie as tie
 

@@ -1,7 +1,6 @@
 -- `perform_live` meets its contract: each arm is the promise of the call that it makes. Assumes nothing.
 use Rattle.sheetmark.proofs.Performing.{performed, by-call, by-count, by-search}
-use mathlib.Core.Path.{refl}
-use borrow.Author.Needs.{needs}
+use Rattle.sheetmark.proofs.Kit.{refl, needs}
 use Rattle.sheetmark.proofs.perform_live.Statement.{statement}
 use Rattle.sheetmark.proofs.perform_live.Tie as tie
 

@@ -1,11 +1,6 @@
 -- `serve` meets its contract. The invariant: the parts read so far are answered, and `reads` counts them. The measure: the reads
 -- that are left. Assumes nothing.
-use mathlib.Core.Path.{_≡_, refl, sym, _∙_}
-use Prim.Native.Nat.{_-_, _^_, _≤_}
-use native.Mathlib.Omega.{arith}
-use borrow.Author.Needs.{needs}
-use lib.ListN.{length}
-use lib.Seq.{length-take-le}
+use Rattle.sheetmark.proofs.Kit.{_≡_, refl, sym, _∙_, _-_, _^_, _≤_, arith, needs, length, length-take-le}
 use Rattle.sheetmark.specs.Answering.{state}
 use Rattle.sheetmark.proofs.Program.{ReadSoFar, read-none, read-more, read-end, served-whole, served-part}
 use Rattle.sheetmark.proofs.serve.Statement.{statement}

@@ -3,10 +3,7 @@
 -- Assumes nothing.
 use Rattle.ledger.proofs.Recording.{not-lent, outside, none-left, too-many, recorded}
 use Rattle.ledger.proofs.Refusals.{lent-accepted}
-use native.Mathlib.Omega.{arith}
-use mathlib.Core.Path.{sym, _∙_}
-use borrow.Author.Tests.{not-true, not-false}
-use borrow.Author.Needs.{needs}
+use Rattle.ledger.proofs.Kit.{arith, sym, _∙_, not-true, not-false, needs}
 use Rattle.ledger.proofs.Ledger.assign.Statement.{statement}
 use Rattle.ledger.proofs.Ledger.assign.Tie as tie
 

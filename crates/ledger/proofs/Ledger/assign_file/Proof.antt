@@ -1,11 +1,6 @@
 -- `ledger::Ledger::assign_file` meets its contract. The loop's invariant: the first i runs are set. The measure is the number
 -- of runs left. Assumes nothing.
-use mathlib.Core.Path.{_≡_, refl, sym, ap, _∙_}
-use borrow.Author.Needs.{needs}
-use native.Mathlib.Omega.{arith}
-use Prim.Native.Nat.{_-_, _≤_}
-use lib.ListN.{length}
-use mathlib.Core.Bool.{true}
+use Rattle.ledger.proofs.Kit.{_≡_, refl, sym, ap, _∙_, needs, arith, _-_, _≤_, length, true}
 use Rattle.ledger.specs.Inner.{fileRuns, Reassigns}
 use Rattle.saved_list.specs.Answers.{ofFoundRun}
 use Rattle.saved_list.proofs.Opening.{found-is, found-none}

@@ -1,10 +1,7 @@
 -- `assign_point` meets its contract: a point ends one behind it, and usize's greatest lies above every capacity. Assumes nothing.
 use Rattle.ledger.proofs.Recording.{not-lent, outside}
 use Rattle.ledger.proofs.Refusals.{lent-accepted, ledger-words}
-use native.Mathlib.Numerals.{add-one}
-use native.Mathlib.Omega.{arith}
-use mathlib.Core.Path.{sym, _∙_}
-use borrow.Author.Needs.{needs}
+use Rattle.ledger.proofs.Kit.{add-one, arith, sym, _∙_, needs}
 use Rattle.ledger.proofs.Ledger.assign_point.Statement.{statement}
 use Rattle.ledger.proofs.Ledger.assign_point.Tie as tie
 

@@ -1,10 +1,6 @@
 -- `ledger::Ledger::assign_runs` meets its contract. The loop's invariant: the first i runs are assigned. The measure is the
 -- number of runs left. Assumes nothing.
-use mathlib.Core.Path.{_≡_, refl, _∙_}
-use borrow.Author.Needs.{needs}
-use native.Mathlib.Omega.{arith}
-use Prim.Native.Nat.{_+_, _*_, _-_, _≤_}
-use lib.ListN.{length}
+use Rattle.ledger.proofs.Kit.{_≡_, refl, _∙_, needs, arith, _+_, _*_, _-_, _≤_, length}
 use Rattle.ledger.specs.Inner.{readRuns, AssignsRuns}
 use Rattle.ledger.proofs.Reassigning.{assigns-none, assigns-turn, assigns-all}
 use Rattle.ledger.proofs.Ledger.assign_runs.Statement.{statement}

@@ -1,7 +1,6 @@
 -- `ledger::Ledger::last_call` meets its contract. Assumes nothing.
 use Rattle.ledger.proofs.Backing.{last-none, last-few, last-many}
-use native.Mathlib.Omega.{arith}
-use borrow.Author.Needs.{needs}
+use Rattle.ledger.proofs.Kit.{arith, needs}
 use Rattle.ledger.proofs.Ledger.last_call.Statement.{statement}
 use Rattle.ledger.proofs.Ledger.last_call.Tie as tie
 

@@ -1,8 +1,6 @@
 -- `packed` meets its contract: one case for each value. Assumes nothing.
 use Rattle.positions.specs.Positions.{one}
-use native.Mathlib.Omega.{arith}
-use mathlib.Core.Path.{ap}
-use borrow.Author.Needs.{needs}
+use Rattle.ledger.proofs.Kit.{arith, ap, needs}
 use Rattle.ledger.proofs.Ledger.packed.Statement.{statement}
 use Rattle.ledger.proofs.Ledger.packed.Tie as tie
 

@@ -1,9 +1,7 @@
 -- `ledger::Ledger::refusal` meets its contract: one law of Refusals for each return, `a` where the set had told its refusal.
 -- Assumes nothing.
 use Rattle.ledger.proofs.Refusals.{set-refused, journal-above, used-above, storage-less, storage-enough}
-use mathlib.Core.Bool.{true, false}
-use borrow.Author.Tests.{le-leb, lt-leb}
-use borrow.Author.Needs.{needs}
+use Rattle.ledger.proofs.Kit.{true, false, le-leb, lt-leb, needs}
 use Rattle.ledger.proofs.Ledger.refusal.Statement.{statement}
 use Rattle.ledger.proofs.Ledger.refusal.Tie as tie
 

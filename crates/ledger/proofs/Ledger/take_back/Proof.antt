@@ -1,10 +1,8 @@
 -- `ledger::Ledger::take_back` meets its contract. Assumes nothing.
-use mathlib.Core.Path.{sym, _∙_}
-use native.Mathlib.Omega.{arith}
+use Rattle.ledger.proofs.Kit.{sym, _∙_, arith, needs}
 use Rattle.ledger.specs.Machine.{Back}
 use Rattle.ledger.proofs.Refusals.{declined-as, lent-accepted}
 use Rattle.ledger.proofs.Backing.{last-read, last-absent, back-refused, back-none, back-room, taken-back}
-use borrow.Author.Needs.{needs}
 use Rattle.ledger.proofs.Ledger.take_back.Statement.{statement}
 use Rattle.ledger.proofs.Ledger.take_back.Tie as tie
 

@@ -1,9 +1,8 @@
 -- `ledger::Ledger::wipe` meets its contract. Assumes nothing.
-use mathlib.Core.Path.{sym, _∙_}
+use Rattle.ledger.proofs.Kit.{sym, _∙_, needs}
 use Rattle.ledger.specs.Machine.{Wipe}
 use Rattle.ledger.proofs.Refusals.{declined-as}
 use Rattle.ledger.proofs.Backing.{wipe-refused, wiped}
-use borrow.Author.Needs.{needs}
 use Rattle.ledger.proofs.Ledger.wipe.Statement.{statement}
 use Rattle.ledger.proofs.Ledger.wipe.Tie as tie
 

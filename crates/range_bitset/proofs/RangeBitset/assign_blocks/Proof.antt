@@ -1,9 +1,8 @@
 -- `range_bitset::RangeBitset::assign_blocks` meets its contract. Assumes nothing.
-use mathlib.Core.Path.{_∙_}
+use Rattle.range_bitset.proofs.Kit.{_∙_, needs}
 use Rattle.range_bitset.specs.Represents.{closed}
 use Rattle.range_bitset.proofs.Populations.{blocks-count}
 use Rattle.range_bitset.proofs.WholeWords.{blocks-assigned}
-use borrow.Author.Needs.{needs}
 use Rattle.range_bitset.proofs.RangeBitset.assign_blocks.Statement.{statement}
 use Rattle.range_bitset.proofs.RangeBitset.assign_blocks.Tie as tie
 

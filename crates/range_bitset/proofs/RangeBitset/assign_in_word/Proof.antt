@@ -1,7 +1,6 @@
 -- `range_bitset::RangeBitset::assign_in_word` meets its contract. Assumes nothing.
 use Rattle.range_bitset.proofs.Assigning.{word-assigned}
-use native.Mathlib.Omega.{arith}
-use borrow.Author.Needs.{needs}
+use Rattle.range_bitset.proofs.Kit.{arith, needs}
 use Rattle.range_bitset.proofs.RangeBitset.assign_in_word.Statement.{statement}
 use Rattle.range_bitset.proofs.RangeBitset.assign_in_word.Tie as tie
 

@@ -2,12 +2,7 @@
 use Rattle.range_bitset.proofs.Pieces.{assigns-none, assigns-to, assigns-pieces}
 use Rattle.range_bitset.proofs.Heads.{room-same}
 use Rattle.range_bitset.specs.Inner.{Assigns}
-use native.Mathlib.Omega.{arith}
-use lib.ListN.{length}
-use Prim.Native.Nat.{ℕ, _+_, _*_, _%_, _^_, _≤_, _<_}
-use mathlib.Core.Logic.{⊎-elim}
-use mathlib.Core.Path.{_≡_, refl, ap, _∙_}
-use borrow.Author.Needs.{needs}
+use Rattle.range_bitset.proofs.Kit.{arith, length, ℕ, _+_, _*_, _%_, _^_, _≤_, _<_, ⊎-elim, _≡_, refl, ap, _∙_, needs}
 use Rattle.range_bitset.proofs.RangeBitset.assign_range.Statement.{statement}
 use Rattle.range_bitset.proofs.RangeBitset.assign_range.Tie as tie
 

@@ -1,11 +1,10 @@
 -- `range_bitset::RangeBitset::assign_words` meets its contract. Assumes nothing.
-use mathlib.Core.Path.{_∙_}
+use Rattle.range_bitset.proofs.Kit.{_∙_, needs}
 use Rattle.range_bitset.specs.Represents.{only}
 use Rattle.range_bitset.proofs.Populations.{mixed-count}
 use Rattle.range_bitset.proofs.Opening.{open-here}
 use Rattle.range_bitset.proofs.Heads.{room-same}
 use Rattle.range_bitset.proofs.WholeWords.{words-assigned}
-use borrow.Author.Needs.{needs}
 use Rattle.range_bitset.proofs.RangeBitset.assign_words.Statement.{statement}
 use Rattle.range_bitset.proofs.RangeBitset.assign_words.Tie as tie
 

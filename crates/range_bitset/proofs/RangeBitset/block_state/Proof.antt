@@ -1,7 +1,5 @@
 -- `range_bitset::RangeBitset::block_state` meets its contract. Assumes nothing.
-use borrow.Author.Needs.{needs}
-use mathlib.Core.Path.{_≡_}
-use mathlib.Core.Bool.{true, false}
+use Rattle.range_bitset.proofs.Kit.{needs, _≡_, true, false}
 use Rattle.bits.specs.Bit.{bit}
 use Rattle.range_bitset.specs.Layout.{at, topNonzero, topFull}
 use Rattle.range_bitset.specs.Read.{stateOf}

@@ -1,10 +1,5 @@
 -- `blocks_population` meets its contract, by `blocks-total` of Walked. Assumes nothing.
-use borrow.Author.Needs.{needs}
-use mathlib.Core.Path.{_∙_}
-use native.Mathlib.Nat.{lt-of-le-of-lt}
-use native.Mathlib.Omega.{arith}
-use lib.Bits.{bitAnd, and-le-l}
-use lib.ListN.{getD}
+use Rattle.range_bitset.proofs.Kit.{needs, _∙_, lt-of-le-of-lt, arith, bitAnd, and-le-l, getD}
 use Rattle.range_bitset.proofs.Walked.{ones-left, blocks-total}
 use Rattle.range_bitset.proofs.RangeBitset.blocks_population.Statement.{statement}
 use Rattle.range_bitset.proofs.RangeBitset.blocks_population.Tie as tie

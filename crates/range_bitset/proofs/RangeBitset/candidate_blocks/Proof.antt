@@ -2,9 +2,7 @@
 use Rattle.range_bitset.proofs.Candidates.{top-ones, top-zeros}
 use Rattle.range_bitset.proofs.Slots.{read-at}
 use Rattle.positions.specs.Positions.{within}
-use Prim.Native.Nat.{ℕ}
-use mathlib.Core.Path.{refl, ap, _∙_}
-use borrow.Author.Needs.{needs}
+use Rattle.range_bitset.proofs.Kit.{ℕ, refl, ap, _∙_, needs}
 use Rattle.range_bitset.proofs.RangeBitset.candidate_blocks.Statement.{statement}
 use Rattle.range_bitset.proofs.RangeBitset.candidate_blocks.Tie as tie
 

@@ -1,8 +1,7 @@
 -- `range_bitset::RangeBitset::candidate_words` meets its contract. Assumes nothing.
 use Rattle.range_bitset.proofs.Candidates.{empty-ones, empty-zeros, full-ones, full-zeros, mixed-ones, mixed-zeros}
 use Rattle.range_bitset.proofs.Slots.{read-at}
-use mathlib.Core.Path.{refl, sym, _∙_}
-use borrow.Author.Needs.{needs}
+use Rattle.range_bitset.proofs.Kit.{refl, sym, _∙_, needs}
 use Rattle.range_bitset.proofs.RangeBitset.candidate_words.Statement.{statement}
 use Rattle.range_bitset.proofs.RangeBitset.candidate_words.Tie as tie
 

@@ -3,12 +3,7 @@ use Rattle.range_bitset.proofs.Heads.{good-bounds}
 use Rattle.range_bitset.specs.Entries.{ofHead}
 use Rattle.positions.specs.Replies.{number}
 use Rattle.range_bitset.specs.Answers.{goodHead}
-use borrow.Author.Tests.{not-true, not-false}
-use native.Mathlib.Nat.{mul-comm}
-use native.Mathlib.Omega.{arith}
-use mathlib.Core.Bool.{true, false}
-use mathlib.Core.Path.{_≡_, sym, ap, _∙_}
-use borrow.Author.Needs.{needs}
+use Rattle.range_bitset.proofs.Kit.{not-true, not-false, mul-comm, arith, true, false, _≡_, sym, ap, _∙_, needs}
 use Rattle.range_bitset.proofs.RangeBitset.capacity.Statement.{statement}
 use Rattle.range_bitset.proofs.RangeBitset.capacity.Tie as tie
 

@@ -1,8 +1,7 @@
 -- `range_bitset::RangeBitset::clear` meets its contract. Assumes nothing.
 use Rattle.range_bitset.proofs.Changing.{unaccepted, clear-idle, clear-done}
 use Rattle.range_bitset.proofs.Heads.{accepted}
-use mathlib.Core.Path.{refl, sym, _∙_}
-use borrow.Author.Needs.{needs}
+use Rattle.range_bitset.proofs.Kit.{refl, sym, _∙_, needs}
 use Rattle.range_bitset.proofs.RangeBitset.clear.Statement.{statement}
 use Rattle.range_bitset.proofs.RangeBitset.clear.Tie as tie
 

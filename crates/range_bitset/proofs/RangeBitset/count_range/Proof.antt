@@ -1,8 +1,5 @@
 -- `count_range` meets its contract: the two partial words at the ends, and the whole words between. Assumes nothing.
-use borrow.Author.Needs.{needs}
-use mathlib.Core.Logic.{⊎-elim}
-use Prim.Native.Nat.{_+_, _-_, _/_, _%_, _≤_}
-use native.Mathlib.Omega.{arith}
+use Rattle.range_bitset.proofs.Kit.{needs, ⊎-elim, _+_, _-_, _/_, _%_, _≤_, arith}
 use Rattle.range_bitset.proofs.CountPieces.{word-piece, LowWord, EndWords, low-word, low-word-none, high-word, high-word-none, words-between}
 use Rattle.range_bitset.proofs.RangeBitset.count_range.Statement.{statement}
 use Rattle.range_bitset.proofs.RangeBitset.count_range.Tie as tie

@@ -1,10 +1,6 @@
 -- `range_bitset::RangeBitset::ensure_storage` meets its contract. Assumes nothing.
 use Rattle.range_bitset.proofs.Beginning.{begins-fresh, begins-old}
-use borrow.Author.Tests.{not-true, not-false}
-use lib.ListN.{length-set}
-use native.Mathlib.Omega.{arith}
-use mathlib.Core.Path.{refl}
-use borrow.Author.Needs.{needs}
+use Rattle.range_bitset.proofs.Kit.{not-true, not-false, length-set, arith, refl, needs}
 use Rattle.range_bitset.proofs.RangeBitset.ensure_storage.Statement.{statement}
 use Rattle.range_bitset.proofs.RangeBitset.ensure_storage.Tie as tie
 

@@ -1,10 +1,7 @@
 -- `range_bitset::RangeBitset::good_head` meets its contract. Assumes nothing.
 use Rattle.range_bitset.specs.Answers.{goodHead}
 use Rattle.range_bitset.specs.Layout.{allowed}
-use borrow.Author.Tests.{not-true, not-false}
-use mathlib.Core.Bool.{true, false}
-use mathlib.Core.Path.{_≡_, sym, _∙_}
-use borrow.Author.Needs.{needs}
+use Rattle.range_bitset.proofs.Kit.{not-true, not-false, true, false, _≡_, sym, _∙_, needs}
 use Rattle.range_bitset.proofs.RangeBitset.good_head.Statement.{statement}
 use Rattle.range_bitset.proofs.RangeBitset.good_head.Tie as tie
 

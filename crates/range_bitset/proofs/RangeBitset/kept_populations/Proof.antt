@@ -1,13 +1,7 @@
 -- `kept_populations` meets its contract. The invariant: the sum so far and the kept populations of the blocks that are left
 -- make the whole, in 32 bits; what is left is still a mask of the blocks that there are. The measure is that mask. Assumes
 -- nothing.
-use borrow.Author.Needs.{needs}
-use mathlib.Core.Path.{_≡_, refl, ap, _∙_}
-use Prim.Native.Nat.{_+_, _-_, _%_, _^_, _<_}
-use native.Mathlib.Omega.{arith}
-use native.Mathlib.Nat.{lt-of-le-of-lt}
-use lib.Bits.{and-le-l}
-use lib.Count.{trailing-le}
+use Rattle.range_bitset.proofs.Kit.{needs, _≡_, refl, ap, _∙_, _+_, _-_, _%_, _^_, _<_, arith, lt-of-le-of-lt, and-le-l, trailing-le}
 use Rattle.bits.proofs.Ones.{drop-lowest-lt}
 use Rattle.bits.proofs.Walks.{walk-none}
 use Rattle.range_bitset.specs.Layout.{blocks, at, population}

@@ -1,9 +1,5 @@
 -- `masked_ones` meets its contract. Assumes nothing.
-use borrow.Author.Needs.{needs}
-use mathlib.Core.Path.{ap}
-use Prim.Native.Nat.{ℕ}
-use lib.Bits.{bitAnd}
-use lib.Count.{ones}
+use Rattle.range_bitset.proofs.Kit.{needs, ap, ℕ, bitAnd, ones}
 use Rattle.range_bitset.proofs.Walked.{ones-right}
 use Rattle.range_bitset.proofs.RangeBitset.masked_ones.Statement.{statement}
 use Rattle.range_bitset.proofs.RangeBitset.masked_ones.Tie as tie

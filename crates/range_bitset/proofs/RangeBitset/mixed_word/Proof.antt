@@ -1,8 +1,5 @@
 -- `range_bitset::RangeBitset::mixed_word` meets its contract. Assumes nothing.
-use borrow.Author.Needs.{needs}
-use mathlib.Core.Path.{_≡_}
-use mathlib.Core.Bool.{true, false}
-use Prim.Native.Nat.{_/_, _%_}
+use Rattle.range_bitset.proofs.Kit.{needs, _≡_, true, false, _/_, _%_}
 use Rattle.bits.specs.Bit.{bit}
 use Rattle.range_bitset.specs.Layout.{at, word, nonzero, full}
 use Rattle.range_bitset.specs.Read.{mixedRead}

@@ -1,11 +1,5 @@
 -- `mixed_words_population` meets its contract, by `mixed-total` of Walked. Assumes nothing.
-use borrow.Author.Needs.{needs}
-use mathlib.Core.Path.{ap, _∙_}
-use Prim.Native.Nat.{ℕ, _+_, _*_, _^_, _<_}
-use native.Mathlib.Omega.{arith}
-use lib.Bits.{bitAnd}
-use lib.Count.{ones}
-use lib.ListN.{getD}
+use Rattle.range_bitset.proofs.Kit.{needs, ap, _∙_, ℕ, _+_, _*_, _^_, _<_, arith, bitAnd, ones, getD}
 use Rattle.range_bitset.specs.Layout.{wordsOf}
 use Rattle.range_bitset.proofs.Walked.{ones-right, explicit-fits, mixed-total, mixed-most}
 use Rattle.range_bitset.proofs.RangeBitset.mixed_words_population.Statement.{statement}

@@ -3,12 +3,7 @@ use Rattle.range_bitset.proofs.Heads.{allowed-bounds}
 use Rattle.range_bitset.specs.Entries.{newOf}
 use Rattle.range_bitset.specs.Answers.{allowedCapacity}
 use Rattle.range_bitset.specs.Layout.{allowed}
-use borrow.Author.Tests.{ne-eqb, eq-eqb, not-true, not-false}
-use Prim.Native.Nat.{_/_}
-use native.Mathlib.Omega.{arith}
-use mathlib.Core.Bool.{true, false}
-use mathlib.Core.Path.{_≡_, sym, _∙_}
-use borrow.Author.Needs.{needs}
+use Rattle.range_bitset.proofs.Kit.{ne-eqb, eq-eqb, not-true, not-false, _/_, arith, true, false, _≡_, sym, _∙_, needs}
 use Rattle.range_bitset.proofs.RangeBitset.new.Statement.{statement}
 use Rattle.range_bitset.proofs.RangeBitset.new.Tie as tie
 

@@ -1,10 +1,7 @@
 -- `range_bitset::RangeBitset::open_block` meets its contract. Assumes nothing.
 use Rattle.range_bitset.proofs.Opening.{opens-mixed, opens-full, opens-empty}
 use Rattle.range_bitset.specs.Inner.{stores, openWith}
-use Prim.Native.Nat.{ℕ, _*_}
-use mathlib.Core.Path.{ap₂}
-use mathlib.Core.Path.{refl, sym, _∙_}
-use borrow.Author.Needs.{needs}
+use Rattle.range_bitset.proofs.Kit.{ℕ, _*_, ap₂, refl, sym, _∙_, needs}
 use Rattle.range_bitset.proofs.RangeBitset.open_block.Statement.{statement}
 use Rattle.range_bitset.proofs.RangeBitset.open_block.Tie as tie
 

@@ -1,8 +1,6 @@
 -- `range_bitset::RangeBitset::point_refusal` meets its contract. Assumes nothing.
 use Rattle.range_bitset.specs.Answers.{storageRefusal, pointRefusal}
-use borrow.Author.Tests.{ne-eqb, lt-ltb, le-ltb}
-use mathlib.Core.Path.{_≡_, sym, _∙_}
-use borrow.Author.Needs.{needs}
+use Rattle.range_bitset.proofs.Kit.{ne-eqb, lt-ltb, le-ltb, _≡_, sym, _∙_, needs}
 use Rattle.range_bitset.proofs.RangeBitset.point_refusal.Statement.{statement}
 use Rattle.range_bitset.proofs.RangeBitset.point_refusal.Tie as tie
 

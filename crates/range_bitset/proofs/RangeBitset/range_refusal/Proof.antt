@@ -1,8 +1,6 @@
 -- `range_bitset::RangeBitset::range_refusal` meets its contract. Assumes nothing.
 use Rattle.range_bitset.specs.Answers.{storageRefusal, rangeRefusal}
-use borrow.Author.Tests.{ne-eqb, le-leb, lt-leb}
-use mathlib.Core.Path.{_≡_, sym, _∙_}
-use borrow.Author.Needs.{needs}
+use Rattle.range_bitset.proofs.Kit.{ne-eqb, le-leb, lt-leb, _≡_, sym, _∙_, needs}
 use Rattle.range_bitset.proofs.RangeBitset.range_refusal.Statement.{statement}
 use Rattle.range_bitset.proofs.RangeBitset.range_refusal.Tie as tie
 

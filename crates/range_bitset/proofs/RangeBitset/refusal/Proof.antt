@@ -2,11 +2,7 @@
 use Rattle.range_bitset.proofs.Heads.{good-bounds}
 use Rattle.range_bitset.specs.Answers.{goodHead, storageRefusal}
 use Rattle.range_bitset.specs.Layout.{needed}
-use borrow.Author.Tests.{lt-ltb, le-ltb, not-true, not-false}
-use native.Mathlib.Omega.{arith}
-use mathlib.Core.Bool.{true, false}
-use mathlib.Core.Path.{_≡_, sym, _∙_}
-use borrow.Author.Needs.{needs}
+use Rattle.range_bitset.proofs.Kit.{lt-ltb, le-ltb, not-true, not-false, arith, true, false, _≡_, sym, _∙_, needs}
 use Rattle.range_bitset.proofs.RangeBitset.refusal.Statement.{statement}
 use Rattle.range_bitset.proofs.RangeBitset.refusal.Tie as tie
 

@@ -1,9 +1,7 @@
 -- `range_bitset::RangeBitset::set` meets its contract. Assumes nothing.
 use Rattle.range_bitset.proofs.Changing.{unaccepted, set-idle, set-done}
 use Rattle.range_bitset.proofs.Heads.{point-accepted, room-same}
-use native.Mathlib.Omega.{arith}
-use mathlib.Core.Path.{refl, sym, _∙_}
-use borrow.Author.Needs.{needs}
+use Rattle.range_bitset.proofs.Kit.{arith, refl, sym, _∙_, needs}
 use Rattle.range_bitset.proofs.RangeBitset.set.Statement.{statement}
 use Rattle.range_bitset.proofs.RangeBitset.set.Tie as tie
 

@@ -1,6 +1,5 @@
 -- `range_bitset::RangeBitset::shifted` meets its contract. Assumes nothing.
-use native.Mathlib.Omega.{arith}
-use borrow.Author.Needs.{needs}
+use Rattle.range_bitset.proofs.Kit.{arith, needs}
 use Rattle.range_bitset.proofs.RangeBitset.shifted.Statement.{statement}
 use Rattle.range_bitset.proofs.RangeBitset.shifted.Tie as tie
 

@@ -1,8 +1,5 @@
 -- `range_bitset::RangeBitset::size_if` meets its contract. Assumes nothing.
-use native.Mathlib.Nat.{mul-le-mul}
-use lib.Count.{ones-le}
-use native.Mathlib.Omega.{arith}
-use borrow.Author.Needs.{needs}
+use Rattle.range_bitset.proofs.Kit.{mul-le-mul, ones-le, arith, needs}
 use Rattle.range_bitset.proofs.RangeBitset.size_if.Statement.{statement}
 use Rattle.range_bitset.proofs.RangeBitset.size_if.Tie as tie
 

@@ -1,13 +1,6 @@
 -- `stored_population` meets its contract. The invariant: the sum so far and the population of the words that are left make
 -- the whole; what is left is still a mask of the words that there are. The measure is that mask. Assumes nothing.
-use mathlib.Core.Path.{_≡_, ap}
-use Prim.Native.Nat.{_+_, _-_, _^_, _≤_, _<_}
-use native.Mathlib.Omega.{arith}
-use native.Mathlib.Nat.{lt-of-le-of-lt, lt-of-lt-of-le, zero-add}
-use lib.Bits.{and-le-l}
-use lib.Count.{ones, trailing-le}
-use lib.ListN.{length, getD}
-use lib.Pow.{pow-mono}
+use Rattle.range_bitset.proofs.Kit.{_≡_, ap, _+_, _-_, _^_, _≤_, _<_, arith, lt-of-le-of-lt, lt-of-lt-of-le, zero-add, and-le-l, ones, trailing-le, length, getD, pow-mono}
 use Rattle.bits.proofs.Ones.{drop-lowest-lt}
 use Rattle.bits.proofs.Walks.{walk-none, walk-step}
 use Rattle.range_bitset.proofs.Walked.{lowest-lt, storedCount, stored-most}

@@ -1,10 +1,6 @@
 -- `range_bitset::RangeBitset::valid_words` meets its contract. Assumes nothing.
-use mathlib.Core.Path.{_≡_, ap, sym, _∙_}
-use Prim.Native.Nat.{ℕ, _-_, _^_}
-use native.Mathlib.Omega.{arith}
-use lib.Pow.{pow-pos}
+use Rattle.range_bitset.proofs.Kit.{_≡_, ap, sym, _∙_, ℕ, _-_, _^_, arith, pow-pos, needs}
 use Rattle.range_bitset.specs.Layout.{wordsOf}
-use borrow.Author.Needs.{needs}
 use Rattle.bits.proofs.Bits.{single}
 use Rattle.range_bitset.proofs.RangeBitset.valid_words.Statement.{statement}
 use Rattle.range_bitset.proofs.RangeBitset.valid_words.Tie as tie

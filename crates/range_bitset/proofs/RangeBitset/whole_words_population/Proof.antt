@@ -1,10 +1,6 @@
 -- `whole_words_population` meets its contract: the words in the two partial blocks at the ends, and the whole blocks
 -- between. Assumes nothing.
-use borrow.Author.Needs.{needs}
-use mathlib.Core.Logic.{⊎-elim}
-use mathlib.Core.Path.{refl}
-use Prim.Native.Nat.{_+_, _*_, _-_, _/_, _%_, _≤_, _<_}
-use native.Mathlib.Omega.{arith}
+use Rattle.range_bitset.proofs.Kit.{needs, ⊎-elim, refl, _+_, _*_, _-_, _/_, _%_, _≤_, _<_, arith}
 use Rattle.range_bitset.specs.Layout.{wordsOf}
 use Rattle.range_bitset.proofs.Masks.{spans-lt}
 use Rattle.range_bitset.proofs.CountPieces.{no-piece, words-piece, LowBlock, EndBlocks, low-block, low-block-none, high-block, high-block-none, blocks-between, no-blocks-between}

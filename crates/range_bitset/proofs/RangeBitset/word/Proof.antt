@@ -1,8 +1,6 @@
 -- `range_bitset::RangeBitset::word` meets its contract. Assumes nothing.
-use borrow.Author.Needs.{needs}
-use mathlib.Core.Path.{_≡_, sym, _∙_}
+use Rattle.range_bitset.proofs.Kit.{needs, _≡_, sym, _∙_, _/_}
 use Rattle.range_bitset.specs.declared.State.the-variants.{Empty, Mixed, Full}
-use Prim.Native.Nat.{_/_}
 use Rattle.range_bitset.specs.Read.{wordRead, stateOf}
 use Rattle.range_bitset.proofs.RangeBitset.word.Statement.{statement}
 use Rattle.range_bitset.proofs.RangeBitset.word.Tie as tie

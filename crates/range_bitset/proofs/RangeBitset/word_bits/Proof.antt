@@ -1,8 +1,6 @@
 -- `range_bitset::RangeBitset::word_bits` meets its contract. Assumes nothing.
 use Rattle.range_bitset.specs.Read.{ALL}
-use Prim.Native.Nat.{ℕ, _-_}
-use mathlib.Core.Path.{ap}
-use borrow.Author.Needs.{needs}
+use Rattle.range_bitset.proofs.Kit.{ℕ, _-_, ap, needs}
 use Rattle.range_bitset.proofs.RangeBitset.word_bits.Statement.{statement}
 use Rattle.range_bitset.proofs.RangeBitset.word_bits.Tie as tie
 

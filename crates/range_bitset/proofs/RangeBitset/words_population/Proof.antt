@@ -1,8 +1,5 @@
 -- `words_population` meets its contract: one law of Walked for each state of the block. Assumes nothing.
-use borrow.Author.Needs.{needs}
-use mathlib.Core.Path.{sym, _∙_}
-use native.Mathlib.Omega.{arith}
-use lib.Count.{ones-le}
+use Rattle.range_bitset.proofs.Kit.{needs, sym, _∙_, arith, ones-le}
 use Rattle.range_bitset.proofs.Walked.{words-empty, words-full, words-mixed}
 use Rattle.range_bitset.proofs.RangeBitset.words_population.Statement.{statement}
 use Rattle.range_bitset.proofs.RangeBitset.words_population.Tie as tie

@@ -1,7 +1,5 @@
 -- `range_bitset::RangeBitset::write_masks` meets its contract. Assumes nothing.
-use lib.ListN.{length-set}
-use native.Mathlib.Omega.{arith}
-use borrow.Author.Needs.{needs}
+use Rattle.range_bitset.proofs.Kit.{length-set, arith, needs}
 use Rattle.range_bitset.proofs.RangeBitset.write_masks.Statement.{statement}
 use Rattle.range_bitset.proofs.RangeBitset.write_masks.Tie as tie
 
