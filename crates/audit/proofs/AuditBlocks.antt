@@ -21,7 +21,7 @@ use Rattle.range_bitset.specs.declared.ShownBlock.the-variants as block
 use Rattle.range_bitset.specs.declared.State.{State}
 use Rattle.range_bitset.specs.declared.State.the-variants.{Empty, Mixed, Full}
 use Rattle.range_bitset.proofs.Walked.{read-by}
-use Rattle.range_bitset.proofs.Words.{word-ones}
+use Rattle.range_bitset.proofs.SetWords.{word-ones}
 use Rattle.audit.proofs.SoundStorage.{plain-word}
 use Rattle.range_bitset.proofs.Populations.{masked-rows}
 

@@ -23,7 +23,7 @@ use Rattle.range_bitset.specs.declared.ShownTops.the-variants as tops
 use Rattle.range_bitset.specs.declared.ShownBlock.{ShownBlock}
 use Rattle.range_bitset.specs.declared.ShownBlock.the-variants as block
 use Rattle.range_bitset.specs.declared.Tested.the-variants as tested
-use Rattle.range_bitset.proofs.Heads.{accepted, point-accepts}
+use Rattle.range_bitset.proofs.AcceptedHeads.{accepted, point-accepts}
 use Rattle.audit.proofs.AuditBlocks.{told-not, told-as, told-eq, masks-fit, fit-masks, mixed-counted, empty-counted, full-counted, words-in, shown-sound, sound-shown, shown-empty, shown-full, shown-mixed, shown-refused}
 
 -- ---- answers that tell how many

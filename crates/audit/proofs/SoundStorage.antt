@@ -12,7 +12,7 @@ use Rattle.audit.specs.Sound.{plain, SoundBlock, SoundStorage, Words}
 use Rattle.range_bitset.specs.declared.State.{State}
 use Rattle.range_bitset.specs.declared.State.the-variants.{Empty, Mixed, Full}
 use Rattle.range_bitset.proofs.Walked.{mixed-row, mixed-lt, read-by}
-use Rattle.range_bitset.proofs.Words.{all-any, in-word, in-block, block-none, block-all, none-all-block, all-any-block, state-mixed, state-masked, full-bit, nonzero-bit, word-is}
+use Rattle.range_bitset.proofs.SetWords.{all-any, in-word, in-block, block-none, block-all, none-all-block, all-any-block, state-mixed, state-masked, full-bit, nonzero-bit, word-is}
 
 -- a state is mixed where the block has some and not all of its positions
 mixed-cond : (f n : Bool) → (n && not f) ≡ true → cond f Full (cond n Mixed Empty) ≡ Mixed

@@ -12,7 +12,7 @@ use Rattle.audit.specs.Sound.{plain, has, Sound, Words, isMixed, live}
 use Rattle.range_bitset.specs.Inner.{In}
 use Rattle.range_bitset.specs.declared.RangeBitset.{RangeBitset}
 use Rattle.range_bitset.specs.declared.State.the-variants.{Empty, Mixed, Full}
-use Rattle.range_bitset.proofs.Words.{in-block, state-is, full-bit, nonzero-bit}
+use Rattle.range_bitset.proofs.SetWords.{in-block, state-is, full-bit, nonzero-bit}
 use Rattle.audit.proofs.SoundStorage.{sound-stored, stored-sound, stored-plain}
 
 -- ---- sound exactly when represented

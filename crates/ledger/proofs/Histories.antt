@@ -6,7 +6,7 @@ use Rattle.range_bitset.specs.Layout.{allowed}
 use Rattle.positions.specs.Replies.{Reply, refused}
 use Rattle.range_bitset.specs.Answers.{allowedCapacity, storageRefusal, rangeRefusal, pointRefusal}
 use Rattle.range_bitset.specs.Entries.{Answers}
-use Rattle.range_bitset.proofs.Heads.{range-accepts, point-accepts, fresh-represents}
+use Rattle.range_bitset.proofs.AcceptedHeads.{range-accepts, point-accepts, fresh-represents}
 use Rattle.ledger.specs.Machine.{Machine, fresh, Call, Outcome, step, after, setOf, population, used}
 use Rattle.ledger.specs.Memory.{Memory, memory, lentEnough, Holds}
 use Rattle.ledger.specs.Entries.{newHead, newOf, ofOpened}

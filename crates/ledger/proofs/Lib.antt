@@ -3,10 +3,10 @@ mod Kit
 pub mod Journals
 pub mod Machines
 pub mod Refusals
-pub mod Marking
-pub mod Recording
-pub mod Reassigning
-pub mod Backing
-pub mod Opening
+pub mod RecordedRuns
+pub mod AssignReturns
+pub mod ReassignedRuns
+pub mod BackReturns
+pub mod OpenReturns
 pub mod Histories
 pub mod Flags

@@ -9,7 +9,7 @@ use Rattle.positions.specs.Replies.{refusal}
 use Rattle.range_bitset.specs.Answers.{ofCounted, allowedCapacity, goodHead, storageRefusal}
 use Rattle.range_bitset.specs.declared.Counted.{Counted}
 use Rattle.range_bitset.specs.declared.Counted.the-variants as counted
-use Rattle.range_bitset.proofs.Heads.{good-bounds, storage-accepted, accepted-storage, storage-bad, storage-good, storage-short, represented-good, fresh-good}
+use Rattle.range_bitset.proofs.AcceptedHeads.{good-bounds, storage-accepted, accepted-storage, storage-bad, storage-good, storage-short, represented-good, fresh-good}
 use Rattle.ledger.specs.Machine.{Machine, Call, Range, Back, Wipe, step}
 use Rattle.ledger.specs.Memory.{Memory, memory, callRefusal, Holds, goodLedger, lentEnough, refusalFor, lentRefusal, wipeRefusal}
 use Rattle.ledger.specs.Entries.{CallEnsures, flagAfter, newHead}

@@ -34,7 +34,7 @@ callNeed Back s = 0
 callNeed Wipe s = 0
 
 -- how many it can need at most, whatever the set: two runs have a position between them, so that n positions have at most
--- (n + 1) / 2 runs (law `need-most` in proofs/Marking)
+-- (n + 1) / 2 runs (law `need-most` in proofs/RecordedRuns)
 abbrev pub mostNeed : Call → ℕ
 mostNeed (Range a e v) = 1 + 2 * ((e - a + 1) / 2)
 mostNeed Back = 0

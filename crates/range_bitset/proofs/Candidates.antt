@@ -11,8 +11,8 @@ use Rattle.range_bitset.specs.Read.{ALL, stateOf}
 use Rattle.range_bitset.specs.Represents.{wordOf, anyWord, allWord, valid, fullMask, anyBlock, allBlock, closed}
 use Rattle.range_bitset.specs.Inner.{Spans, Marks, wordStart, CandidateWords, CandidateBlocks}
 use Rattle.range_bitset.specs.declared.State.the-variants.{Empty, Mixed, Full}
-use Rattle.range_bitset.proofs.Masks.{spans-lt}
-use Rattle.range_bitset.proofs.Words.{valid-fits, nonzero-bit, word-lt, word-bit, word-all, word-none, block-none, block-all, clear-positions, full-positions, state-empty, state-full, state-masked}
+use Rattle.range_bitset.proofs.SpanMasks.{spans-lt}
+use Rattle.range_bitset.proofs.SetWords.{valid-fits, nonzero-bit, word-lt, word-bit, word-all, word-none, block-none, block-all, clear-positions, full-positions, state-empty, state-full, state-masked}
 
 never : (v : Bool) → v ≡ not v → ⊥
 never true e = true≢false e

@@ -1,21 +1,21 @@
 -- The set's laws. Assumes nothing.
 mod Kit
-pub mod Heads
+pub mod AcceptedHeads
 pub mod Slots
-pub mod Words
-pub mod Queries
-pub mod Opening
-pub mod Rewriting
-pub mod Beginning
-pub mod Masks
-pub mod Assigning
+pub mod SetWords
+pub mod QueryReturns
+pub mod OpenBlocks
+pub mod RewrittenBlock
+pub mod BegunStorage
+pub mod SpanMasks
+pub mod AssignedWord
 pub mod WholeWords
-pub mod Changing
+pub mod ChangeReturns
 pub mod Pieces
 pub mod Walked
 pub mod Populations
 pub mod CountPieces
 pub mod Candidates
-pub mod Searching
-pub mod Agreeing
-pub mod Showing
+pub mod SearchReturns
+pub mod AgreeingSets
+pub mod ShownReturns

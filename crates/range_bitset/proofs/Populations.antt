@@ -15,7 +15,7 @@ use Rattle.range_bitset.specs.Represents.{wordOf, blockCount, anyBlock, 
 use Rattle.range_bitset.specs.Inner.{Spans, mixedCount, wordsCount, keptCount, blocksCount}
 use Rattle.range_bitset.specs.declared.State.{State}
 use Rattle.range_bitset.specs.declared.State.the-variants.{Empty, Mixed, Full}
-use Rattle.range_bitset.proofs.Words.{word-lt, word-bit, word-ones, full-count, clear-count, state-is, mixed-is, word-is}
+use Rattle.range_bitset.proofs.SetWords.{word-lt, word-bit, word-ones, full-count, clear-count, state-is, mixed-is, word-is}
 
 -- ---- counts side by side: row j is p j .. p (j + 1)
 

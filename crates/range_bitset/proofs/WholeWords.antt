@@ -12,11 +12,11 @@ use Rattle.range_bitset.specs.Read.{ALL}
 use Rattle.range_bitset.specs.Represents.{wordOf, anyWord, allWord, valid, nonzeroMask, fullMask, blockCount, anyBlock, allBlock, closed, only, masked, StoredOpen, Stored}
 use Rattle.range_bitset.specs.Inner.{Room, Spans, apart, moved, In, stores, find, AllIn, writeMasks, writeTops, countMoved, Opens, Closes, Assigns}
 use Rattle.range_bitset.proofs.Slots.{stores-at, leaves-at, leaves-kept, twice-at, twice-kept}
-use Rattle.range_bitset.proofs.Words.{words-some, block-most}
-use Rattle.range_bitset.proofs.Opening.{open-here}
-use Rattle.range_bitset.proofs.Rewriting.{touches, rewrite-block}
-use Rattle.range_bitset.proofs.Masks.{spans-ones, count-value, put-words}
-use Rattle.range_bitset.proofs.Assigning.{assigns-by, moves, cond-same}
+use Rattle.range_bitset.proofs.SetWords.{words-some, block-most}
+use Rattle.range_bitset.proofs.OpenBlocks.{open-here}
+use Rattle.range_bitset.proofs.RewrittenBlock.{touches, rewrite-block}
+use Rattle.range_bitset.proofs.SpanMasks.{spans-ones, count-value, put-words}
+use Rattle.range_bitset.proofs.AssignedWord.{assigns-by, moves, cond-same}
 
 -- a truth of a word that all ones and zero decide: `any` and `all` of a word
 module _ (g : ℕ → Bool) (all : g ALL ≡ true) (none : g 0 ≡ false) where

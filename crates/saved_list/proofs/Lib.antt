@@ -3,8 +3,8 @@ mod Kit
 pub mod Bytes
 pub mod Rule
 pub mod Lists
-pub mod Answers
-pub mod Opening
+pub mod ReaderReturns
+pub mod GoodFiles
 pub mod Steps
 pub mod OneCallee
 pub mod Readers

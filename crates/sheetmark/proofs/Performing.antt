@@ -8,7 +8,7 @@ use Rattle.range_bitset.specs.Answers.{ofCounted, ofFound, rangeRefusal}
 use Rattle.range_bitset.specs.Entries.{CountEnsures, NextEnsures}
 use Rattle.range_bitset.specs.declared.Found.{Found}
 use Rattle.range_bitset.specs.declared.Counted.{Counted}
-use Rattle.range_bitset.proofs.Heads.{range-accepted}
+use Rattle.range_bitset.proofs.AcceptedHeads.{range-accepted}
 use Rattle.ledger.specs.Machine.{Call}
 use Rattle.ledger.specs.Memory.{Memory, memory}
 use Rattle.ledger.specs.Entries.{CallEnsures}

@@ -10,7 +10,7 @@ use Rattle.ledger.specs.Memory.{Memory, memory, lentEnough, Holds}
 use Rattle.ledger.specs.declared.Ledger.{Ledger}
 use Rattle.ledger.specs.Entries.{newHead, newOf}
 use Rattle.ledger.specs.declared.Opened.the-variants as opened
-use Rattle.range_bitset.proofs.Heads.{allowed-bounds}
+use Rattle.range_bitset.proofs.AcceptedHeads.{allowed-bounds}
 use Rattle.ledger.proofs.Histories.{holds-fresh, accepted}
 use Rattle.command_lines.specs.declared.Command.{Command}
 use Rattle.command_lines.specs.declared.Command.the-variants as command

@@ -1,7 +1,7 @@
 -- `audit::block_audit` meets its contract: one law of Audits for each case that is shown. Assumes nothing.
 use Rattle.audit.proofs.Audits.{unsound, empty-told, full-told, block-words, mixed-sound, mixed-unsound, block-not-refused}
 use Rattle.audit.specs.Sound.{Words}
-use Rattle.range_bitset.proofs.Heads.{accepted}
+use Rattle.range_bitset.proofs.AcceptedHeads.{accepted}
 use Rattle.audit.proofs.Kit.{arith, needs}
 use Rattle.audit.proofs.block_audit.Statement.{statement}
 use Rattle.audit.proofs.block_audit.Tie as tie

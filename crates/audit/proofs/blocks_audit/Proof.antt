@@ -2,8 +2,8 @@
 -- they end. The measure is the blocks to come. Assumes nothing.
 use Rattle.audit.proofs.Audits.{sound-with, unsound, blocks-first, blocks-next, blocks-stop, reach, reach-first, reach-next, reach-most, reach-all}
 use Rattle.range_bitset.specs.Layout.{blocks}
-use Rattle.range_bitset.proofs.Heads.{accepted}
-use Rattle.range_bitset.proofs.Words.{block-most}
+use Rattle.range_bitset.proofs.AcceptedHeads.{accepted}
+use Rattle.range_bitset.proofs.SetWords.{block-most}
 use Rattle.positions.specs.Positions.{count}
 use Rattle.audit.proofs.Kit.{_≡_, _∙_, ap₂, needs, arith, _+_, _*_, _≤_, _-_}
 use Rattle.audit.specs.Sound.{plain}

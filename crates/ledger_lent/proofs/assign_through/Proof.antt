@@ -15,7 +15,7 @@ use Rattle.ledger_lent.proofs.assign_lent as core
 use Rattle.ledger_lent.proofs.assign_lent.Symbol as core-def
 use Rattle.ledger_lent.proofs.assign_lent.Symbol.{name as #core}
 use Rattle.ledger_lent.proofs.assign_lent.Met as core-thm
-use Rattle.ledger_lent.proofs.Heads.{headRow, answerRow, headVal, headVals, out, outVal, sliceAt, IsHead, IsAnswer, is-out, head-tells, AnswerCell, lent, head-typed, out-typed, owns-head, owns-out, answered, lends-head, head-back}
+use Rattle.ledger_lent.proofs.LentHeads.{headRow, answerRow, headVal, headVals, out, outVal, sliceAt, IsHead, IsAnswer, is-out, head-tells, AnswerCell, lent, head-typed, out-typed, owns-head, owns-out, answered, lends-head, head-back}
 use Rattle.ledger_lent.proofs.assign_through.Key.{name as #this}
 use Rattle.ledger_lent.proofs.assign_through as f
 use Rattle.ledger_lent.proofs.assign_through.Statement as stated

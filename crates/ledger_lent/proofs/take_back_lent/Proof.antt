@@ -15,7 +15,7 @@ use Rattle.ledger.proofs.Ledger.take_back as core
 use Rattle.ledger.proofs.Ledger.take_back.Symbol as core-def
 use Rattle.ledger.proofs.Ledger.take_back.Symbol.{name as #core}
 use Rattle.ledger.proofs.Ledger.take_back.Met as core-thm
-use Rattle.ledger_lent.proofs.Heads.{headRow, outRow, headVals, answerVal, sliceAt, IsAnswer, answer-of, head-of, OutCell, lent, head-typed, answer-typed, journal-twice, owns-head, owns-answer, given-out, opens-head, closes-head}
+use Rattle.ledger_lent.proofs.LentHeads.{headRow, outRow, headVals, answerVal, sliceAt, IsAnswer, answer-of, head-of, OutCell, lent, head-typed, answer-typed, journal-twice, owns-head, owns-answer, given-out, opens-head, closes-head}
 use Rattle.ledger_lent.proofs.take_back_lent.Key.{name as #this}
 use Rattle.ledger_lent.proofs.take_back_lent as f
 use Rattle.ledger_lent.proofs.take_back_lent.Statement as stated

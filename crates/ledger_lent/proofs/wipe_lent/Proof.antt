@@ -15,7 +15,7 @@ use Rattle.ledger.proofs.Ledger.wipe as core
 use Rattle.ledger.proofs.Ledger.wipe.Symbol as core-def
 use Rattle.ledger.proofs.Ledger.wipe.Symbol.{name as #core}
 use Rattle.ledger.proofs.Ledger.wipe.Met as core-thm
-use Rattle.ledger_lent.proofs.Heads.{headRow, outRow, headVals, answerVal, sliceAt, IsAnswer, answer-of, head-of, OutCell, lent, head-typed, answer-typed, owns-head, owns-answer, given-out, opens-head, closes-head}
+use Rattle.ledger_lent.proofs.LentHeads.{headRow, outRow, headVals, answerVal, sliceAt, IsAnswer, answer-of, head-of, OutCell, lent, head-typed, answer-typed, owns-head, owns-answer, given-out, opens-head, closes-head}
 use Rattle.ledger_lent.proofs.wipe_lent.Key.{name as #this}
 use Rattle.ledger_lent.proofs.wipe_lent as f
 use Rattle.ledger_lent.proofs.wipe_lent.Statement as stated

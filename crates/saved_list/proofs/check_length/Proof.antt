@@ -1,6 +1,6 @@
 -- `saved_list::check_length` meets its contract. Assumes nothing.
 use Rattle.saved_list.proofs.Kit.{sym, arith, needs}
-use Rattle.saved_list.proofs.Answers.{length-good, length-bad}
+use Rattle.saved_list.proofs.ReaderReturns.{length-good, length-bad}
 use Rattle.saved_list.proofs.check_length.Statement.{statement}
 use Rattle.saved_list.proofs.check_length.Tie as tie
 

@@ -4,7 +4,7 @@ use Rattle.saved_list.proofs.Kit.{_≡_, sym, ap, _∙_, ℕ, _+_, _-_,
 use Rattle.positions.specs.Runs.{run}
 use Rattle.saved_list.specs.Format.{savedCapacity}
 use Rattle.saved_list.proofs.Rule.{ruled-yes, Reached, reached-start, reached-next, reached-bad, reached-end}
-use Rattle.saved_list.proofs.Answers.{runs-good, runs-bad}
+use Rattle.saved_list.proofs.ReaderReturns.{runs-good, runs-bad}
 use Rattle.saved_list.proofs.check_runs.Statement.{statement}
 use Rattle.saved_list.proofs.check_runs.Tie as tie
 

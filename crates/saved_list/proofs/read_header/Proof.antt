@@ -1,6 +1,6 @@
 -- `saved_list::read_header` meets its contract: a law for each return. Assumes nothing.
 use Rattle.saved_list.proofs.Kit.{sym, _∙_, arith, not-true, not-false, needs}
-use Rattle.saved_list.proofs.Answers.{header-short, header-unmarked, header-version, header-fields}
+use Rattle.saved_list.proofs.ReaderReturns.{header-short, header-unmarked, header-version, header-fields}
 use Rattle.saved_list.proofs.read_header.Statement.{statement}
 use Rattle.saved_list.proofs.read_header.Tie as tie
 

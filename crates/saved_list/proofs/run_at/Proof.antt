@@ -1,7 +1,7 @@
 -- `saved_list::run_at` meets its contract: a run is found exactly where the bytes hold it whole. Assumes nothing.
 use Rattle.saved_list.proofs.Kit.{sym, needs}
 use Rattle.saved_list.specs.Format.{runAt}
-use Rattle.saved_list.proofs.Answers.{found-run, found-end}
+use Rattle.saved_list.proofs.ReaderReturns.{found-run, found-end}
 use Rattle.saved_list.proofs.run_at.Statement.{statement}
 use Rattle.saved_list.proofs.run_at.Tie as tie
 

@@ -1,7 +1,7 @@
 -- `assign` meets its contract: one law of Recording for each return. `b` is where the lent slices were accepted, `f` where the
 -- journal had a number left, `n` where it had room for the runs, `w` where they were written, `a` where the range was given its value.
 -- Assumes nothing.
-use Rattle.ledger.proofs.Recording.{not-lent, outside, none-left, too-many, recorded}
+use Rattle.ledger.proofs.AssignReturns.{not-lent, outside, none-left, too-many, recorded}
 use Rattle.ledger.proofs.Refusals.{lent-accepted}
 use Rattle.ledger.proofs.Kit.{arith, sym, _∙_, not-true, not-false, needs}
 use Rattle.ledger.proofs.Ledger.assign.Statement.{statement}

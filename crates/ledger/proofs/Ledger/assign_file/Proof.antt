@@ -3,8 +3,8 @@
 use Rattle.ledger.proofs.Kit.{_≡_, refl, sym, ap, _∙_, needs, arith, _-_, _≤_, length, true}
 use Rattle.ledger.specs.Inner.{fileRuns, Reassigns}
 use Rattle.saved_list.specs.Answers.{ofFoundRun}
-use Rattle.saved_list.proofs.Opening.{found-is, found-none}
-use Rattle.ledger.proofs.Reassigning.{file-none, opens-turn, opens-all, opens-short}
+use Rattle.saved_list.proofs.GoodFiles.{found-is, found-none}
+use Rattle.ledger.proofs.ReassignedRuns.{file-none, opens-turn, opens-all, opens-short}
 use Rattle.ledger.proofs.Ledger.assign_file.Statement.{statement}
 use Rattle.ledger.proofs.Ledger.assign_file.Tie as tie
 

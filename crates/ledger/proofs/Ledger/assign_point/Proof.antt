@@ -1,5 +1,5 @@
 -- `assign_point` meets its contract: a point ends one behind it, and usize's greatest lies above every capacity. Assumes nothing.
-use Rattle.ledger.proofs.Recording.{not-lent, outside}
+use Rattle.ledger.proofs.AssignReturns.{not-lent, outside}
 use Rattle.ledger.proofs.Refusals.{lent-accepted, ledger-words}
 use Rattle.ledger.proofs.Kit.{add-one, arith, sym, _∙_, needs}
 use Rattle.ledger.proofs.Ledger.assign_point.Statement.{statement}

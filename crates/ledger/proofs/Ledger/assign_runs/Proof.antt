@@ -2,7 +2,7 @@
 -- number of runs left. Assumes nothing.
 use Rattle.ledger.proofs.Kit.{_≡_, refl, _∙_, needs, arith, _+_, _*_, _-_, _≤_, length}
 use Rattle.ledger.specs.Inner.{readRuns, AssignsRuns}
-use Rattle.ledger.proofs.Reassigning.{assigns-none, assigns-turn, assigns-all}
+use Rattle.ledger.proofs.ReassignedRuns.{assigns-none, assigns-turn, assigns-all}
 use Rattle.ledger.proofs.Ledger.assign_runs.Statement.{statement}
 use Rattle.ledger.proofs.Ledger.assign_runs.Tie as tie
 

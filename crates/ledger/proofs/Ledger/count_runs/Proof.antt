@@ -1,6 +1,6 @@
 -- `count_runs` meets its contract. The loop's invariant: the runs counted and those from `from` on are all (`Counting`). The
 -- measure is how many it may still count. Assumes nothing.
-use Rattle.ledger.proofs.Marking.{Counting, counting-start, counting-next, counting-done, counting-most}
+use Rattle.ledger.proofs.RecordedRuns.{Counting, counting-start, counting-next, counting-done, counting-most}
 use Rattle.ledger.proofs.Kit.{arith, _-_, _≤_, needs}
 use Rattle.ledger.proofs.Ledger.count_runs.Statement.{statement}
 use Rattle.ledger.proofs.Ledger.count_runs.Tie as tie

@@ -1,5 +1,5 @@
 -- `find` meets its contract: what either search of the set promises, read as a place. Assumes nothing.
-use Rattle.ledger.proofs.Marking.{found-place}
+use Rattle.ledger.proofs.RecordedRuns.{found-place}
 use borrow.Author.Needs.{needs}
 use Rattle.ledger.proofs.Ledger.find.Statement.{statement}
 use Rattle.ledger.proofs.Ledger.find.Tie as tie

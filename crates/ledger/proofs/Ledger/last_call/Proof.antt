@@ -1,5 +1,5 @@
 -- `ledger::Ledger::last_call` meets its contract. Assumes nothing.
-use Rattle.ledger.proofs.Backing.{last-none, last-few, last-many}
+use Rattle.ledger.proofs.BackReturns.{last-none, last-few, last-many}
 use Rattle.ledger.proofs.Kit.{arith, needs}
 use Rattle.ledger.proofs.Ledger.last_call.Statement.{statement}
 use Rattle.ledger.proofs.Ledger.last_call.Tie as tie

@@ -1,6 +1,6 @@
 -- `ledger::Ledger::new` meets its contract. Assumes nothing.
 use Rattle.ledger.proofs.Kit.{eq-eqb, ne-eqb, needs}
-use Rattle.ledger.proofs.Opening.{set-declined, set-made, new-capacity, new-journal, new-lent}
+use Rattle.ledger.proofs.OpenReturns.{set-declined, set-made, new-capacity, new-journal, new-lent}
 use Rattle.ledger.proofs.Ledger.new.Statement.{statement}
 use Rattle.ledger.proofs.Ledger.new.Tie as tie
 

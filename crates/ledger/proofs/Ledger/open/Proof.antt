@@ -1,5 +1,5 @@
 -- `ledger::Ledger::open` meets its contract. Assumes nothing.
-use Rattle.ledger.proofs.Opening.{open-header, open-capacity, open-journal, open-length, open-lent, open-run, open-done}
+use Rattle.ledger.proofs.OpenReturns.{open-header, open-capacity, open-journal, open-length, open-lent, open-run, open-done}
 use borrow.Author.Needs.{needs}
 use Rattle.ledger.proofs.Ledger.open.Statement.{statement}
 use Rattle.ledger.proofs.Ledger.open.Tie as tie

@@ -1,5 +1,5 @@
 -- `runs_fit` meets its contract: a short range by its length, a long one by the count. Assumes nothing.
-use Rattle.ledger.proofs.Marking.{fits-short, fits-counted}
+use Rattle.ledger.proofs.RecordedRuns.{fits-short, fits-counted}
 use Rattle.ledger.proofs.Kit.{arith, needs}
 use Rattle.ledger.proofs.Ledger.runs_fit.Statement.{statement}
 use Rattle.ledger.proofs.Ledger.runs_fit.Tie as tie

@@ -2,7 +2,7 @@
 use Rattle.ledger.proofs.Kit.{sym, _∙_, arith, needs}
 use Rattle.ledger.specs.Machine.{Back}
 use Rattle.ledger.proofs.Refusals.{declined-as, lent-accepted}
-use Rattle.ledger.proofs.Backing.{last-read, last-absent, back-refused, back-none, back-room, taken-back}
+use Rattle.ledger.proofs.BackReturns.{last-read, last-absent, back-refused, back-none, back-room, taken-back}
 use Rattle.ledger.proofs.Ledger.take_back.Statement.{statement}
 use Rattle.ledger.proofs.Ledger.take_back.Tie as tie
 

@@ -2,7 +2,7 @@
 use Rattle.ledger.proofs.Kit.{sym, _∙_, needs}
 use Rattle.ledger.specs.Machine.{Wipe}
 use Rattle.ledger.proofs.Refusals.{declined-as}
-use Rattle.ledger.proofs.Backing.{wipe-refused, wiped}
+use Rattle.ledger.proofs.BackReturns.{wipe-refused, wiped}
 use Rattle.ledger.proofs.Ledger.wipe.Statement.{statement}
 use Rattle.ledger.proofs.Ledger.wipe.Tie as tie
 

@@ -1,5 +1,5 @@
 -- `write_call` meets its contract: the runs, then the closing number behind them. Assumes nothing.
-use Rattle.ledger.proofs.Marking.{writing-closed}
+use Rattle.ledger.proofs.RecordedRuns.{writing-closed}
 use Rattle.ledger.proofs.Kit.{arith, needs}
 use Rattle.ledger.proofs.Ledger.write_call.Statement.{statement}
 use Rattle.ledger.proofs.Ledger.write_call.Tie as tie

@@ -1,6 +1,6 @@
 -- `write_runs` meets its contract. The loop's invariant: `runs` runs are written and the rest lie from `from` on (`Writing`). The
 -- measure is how many it may still write. `l` is where the loop was entered. Assumes nothing.
-use Rattle.ledger.proofs.Marking.{Writing, writing-start, writing-next, writing-done, writing-most}
+use Rattle.ledger.proofs.RecordedRuns.{Writing, writing-start, writing-next, writing-done, writing-most}
 use Rattle.ledger.proofs.Kit.{arith, _+_, _*_, _-_, _≤_, _≡_, needs, below-set}
 use Rattle.ledger.proofs.Ledger.write_runs.Statement.{statement}
 use Rattle.ledger.proofs.Ledger.write_runs.Tie as tie

@@ -1,6 +1,6 @@
 -- `range_bitset::RangeBitset::assign` meets its contract. Assumes nothing.
-use Rattle.range_bitset.proofs.Changing.{unaccepted, assign-empty, assign-idle, assign-done}
-use Rattle.range_bitset.proofs.Heads.{range-accepted, room-same}
+use Rattle.range_bitset.proofs.ChangeReturns.{unaccepted, assign-empty, assign-idle, assign-done}
+use Rattle.range_bitset.proofs.AcceptedHeads.{range-accepted, room-same}
 use Rattle.range_bitset.proofs.Kit.{refl, sym, _∙_, needs}
 use Rattle.range_bitset.proofs.RangeBitset.assign.Statement.{statement}
 use Rattle.range_bitset.proofs.RangeBitset.assign.Tie as tie

@@ -1,5 +1,5 @@
 -- `range_bitset::RangeBitset::assign_in_word` meets its contract. Assumes nothing.
-use Rattle.range_bitset.proofs.Assigning.{word-assigned}
+use Rattle.range_bitset.proofs.AssignedWord.{word-assigned}
 use Rattle.range_bitset.proofs.Kit.{arith, needs}
 use Rattle.range_bitset.proofs.RangeBitset.assign_in_word.Statement.{statement}
 use Rattle.range_bitset.proofs.RangeBitset.assign_in_word.Tie as tie

@@ -1,7 +1,7 @@
 -- `range_bitset::RangeBitset::assign_whole_words` meets its contract. Assumes nothing.
 use Rattle.range_bitset.proofs.Pieces.{assigns-none, assigns-to, assigns-pieces}
-use Rattle.range_bitset.proofs.Masks.{spans-lt}
-use Rattle.range_bitset.proofs.Heads.{room-same}
+use Rattle.range_bitset.proofs.SpanMasks.{spans-lt}
+use Rattle.range_bitset.proofs.AcceptedHeads.{room-same}
 use Rattle.range_bitset.specs.Inner.{Assigns}
 use Rattle.range_bitset.proofs.Kit.{arith, length, ℕ, _+_, _*_, _%_, _^_, _≤_, _<_, ⊎-elim, _≡_, refl, ap, _∙_, needs}
 use Rattle.range_bitset.proofs.RangeBitset.assign_whole_words.Statement.{statement}

@@ -2,8 +2,8 @@
 use Rattle.range_bitset.proofs.Kit.{_∙_, needs}
 use Rattle.range_bitset.specs.Represents.{only}
 use Rattle.range_bitset.proofs.Populations.{mixed-count}
-use Rattle.range_bitset.proofs.Opening.{open-here}
-use Rattle.range_bitset.proofs.Heads.{room-same}
+use Rattle.range_bitset.proofs.OpenBlocks.{open-here}
+use Rattle.range_bitset.proofs.AcceptedHeads.{room-same}
 use Rattle.range_bitset.proofs.WholeWords.{words-assigned}
 use Rattle.range_bitset.proofs.RangeBitset.assign_words.Statement.{statement}
 use Rattle.range_bitset.proofs.RangeBitset.assign_words.Tie as tie

@@ -1,5 +1,5 @@
 -- `range_bitset::RangeBitset::bits_from` meets its contract. Assumes nothing.
-use Rattle.range_bitset.proofs.Searching.{in-first, not-in-first}
+use Rattle.range_bitset.proofs.SearchReturns.{in-first, not-in-first}
 use borrow.Author.Needs.{needs}
 use Rattle.range_bitset.proofs.RangeBitset.bits_from.Statement.{statement}
 use Rattle.range_bitset.proofs.RangeBitset.bits_from.Tie as tie

@@ -1,8 +1,8 @@
 -- `block_of` meets its contract. Assumes nothing.
 use Rattle.range_bitset.proofs.Kit.{refl, ap, sym, _∙_, arith, ℕ, _*_, needs}
 use Rattle.range_bitset.specs.declared.ShownBlock.the-variants as block
-use Rattle.range_bitset.proofs.Heads.{point-accepted}
-use Rattle.range_bitset.proofs.Showing.{hides, block-shown}
+use Rattle.range_bitset.proofs.AcceptedHeads.{point-accepted}
+use Rattle.range_bitset.proofs.ShownReturns.{hides, block-shown}
 use Rattle.range_bitset.proofs.RangeBitset.block_of.Statement.{statement}
 use Rattle.range_bitset.proofs.RangeBitset.block_of.Tie as tie
 

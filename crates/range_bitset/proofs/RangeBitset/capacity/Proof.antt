@@ -1,5 +1,5 @@
 -- `range_bitset::RangeBitset::capacity` meets its contract. Assumes nothing.
-use Rattle.range_bitset.proofs.Heads.{good-bounds}
+use Rattle.range_bitset.proofs.AcceptedHeads.{good-bounds}
 use Rattle.range_bitset.specs.Entries.{ofHead}
 use Rattle.positions.specs.Replies.{number}
 use Rattle.range_bitset.specs.Answers.{goodHead}

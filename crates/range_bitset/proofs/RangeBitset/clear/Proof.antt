@@ -1,6 +1,6 @@
 -- `range_bitset::RangeBitset::clear` meets its contract. Assumes nothing.
-use Rattle.range_bitset.proofs.Changing.{unaccepted, clear-idle, clear-done}
-use Rattle.range_bitset.proofs.Heads.{accepted}
+use Rattle.range_bitset.proofs.ChangeReturns.{unaccepted, clear-idle, clear-done}
+use Rattle.range_bitset.proofs.AcceptedHeads.{accepted}
 use Rattle.range_bitset.proofs.Kit.{refl, sym, _∙_, needs}
 use Rattle.range_bitset.proofs.RangeBitset.clear.Statement.{statement}
 use Rattle.range_bitset.proofs.RangeBitset.clear.Tie as tie

@@ -1,5 +1,5 @@
 -- `range_bitset::RangeBitset::close_block` meets its contract. Assumes nothing.
-use Rattle.range_bitset.proofs.Opening.{closes-clear, closes-all, closes-mixed}
+use Rattle.range_bitset.proofs.OpenBlocks.{closes-clear, closes-all, closes-mixed}
 use Rattle.range_bitset.proofs.Slots.{read-at}
 use Rattle.range_bitset.proofs.Kit.{refl, sym, _∙_, needs}
 use Rattle.range_bitset.proofs.RangeBitset.close_block.Statement.{statement}

@@ -1,7 +1,7 @@
 -- `count` meets its contract: one law of Queries for each return. Assumes nothing.
 use Rattle.range_bitset.proofs.Kit.{needs, refl, sym, _∙_, arith}
-use Rattle.range_bitset.proofs.Heads.{range-accepted}
-use Rattle.range_bitset.proofs.Queries.{declined, count-nothing, count-empty-set, count-begun}
+use Rattle.range_bitset.proofs.AcceptedHeads.{range-accepted}
+use Rattle.range_bitset.proofs.QueryReturns.{declined, count-nothing, count-empty-set, count-begun}
 use Rattle.range_bitset.proofs.RangeBitset.count.Statement.{statement}
 use Rattle.range_bitset.proofs.RangeBitset.count.Tie as tie
 

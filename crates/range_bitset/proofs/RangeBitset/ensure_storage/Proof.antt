@@ -1,5 +1,5 @@
 -- `range_bitset::RangeBitset::ensure_storage` meets its contract. Assumes nothing.
-use Rattle.range_bitset.proofs.Beginning.{begins-fresh, begins-old}
+use Rattle.range_bitset.proofs.BegunStorage.{begins-fresh, begins-old}
 use Rattle.range_bitset.proofs.Kit.{not-true, not-false, length-set, arith, refl, needs}
 use Rattle.range_bitset.proofs.RangeBitset.ensure_storage.Statement.{statement}
 use Rattle.range_bitset.proofs.RangeBitset.ensure_storage.Tie as tie

@@ -1,5 +1,5 @@
 -- `range_bitset::RangeBitset::first_in_word` meets its contract. Assumes nothing.
-use Rattle.range_bitset.proofs.Searching.{first-in-word}
+use Rattle.range_bitset.proofs.SearchReturns.{first-in-word}
 use Rattle.range_bitset.proofs.Kit.{trailing-le, arith, needs}
 use Rattle.range_bitset.proofs.RangeBitset.first_in_word.Statement.{statement}
 use Rattle.range_bitset.proofs.RangeBitset.first_in_word.Tie as tie

@@ -1,6 +1,6 @@
 -- `range_bitset::RangeBitset::get` meets its contract. Assumes nothing.
-use Rattle.range_bitset.proofs.Queries.{declined, get-fresh, get-begun}
-use Rattle.range_bitset.proofs.Heads.{point-accepted}
+use Rattle.range_bitset.proofs.QueryReturns.{declined, get-fresh, get-begun}
+use Rattle.range_bitset.proofs.AcceptedHeads.{point-accepted}
 use Rattle.range_bitset.proofs.Kit.{not-true, not-false, needs, arith, refl, sym, _∙_}
 use Rattle.range_bitset.proofs.RangeBitset.get.Statement.{statement}
 use Rattle.range_bitset.proofs.RangeBitset.get.Tie as tie

@@ -1,6 +1,6 @@
 -- `mixed_block` meets its contract. Assumes nothing.
-use Rattle.range_bitset.proofs.Showing.{mixed-shown}
-use Rattle.range_bitset.proofs.Words.{valid-fits}
+use Rattle.range_bitset.proofs.ShownReturns.{mixed-shown}
+use Rattle.range_bitset.proofs.SetWords.{valid-fits}
 use borrow.Author.Needs.{needs}
 use Rattle.range_bitset.proofs.RangeBitset.mixed_block.Statement.{statement}
 use Rattle.range_bitset.proofs.RangeBitset.mixed_block.Tie as tie

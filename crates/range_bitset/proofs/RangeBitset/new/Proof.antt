@@ -1,5 +1,5 @@
 -- `range_bitset::RangeBitset::new` meets its contract. Assumes nothing.
-use Rattle.range_bitset.proofs.Heads.{allowed-bounds}
+use Rattle.range_bitset.proofs.AcceptedHeads.{allowed-bounds}
 use Rattle.range_bitset.specs.Entries.{newOf}
 use Rattle.range_bitset.specs.Answers.{allowedCapacity}
 use Rattle.range_bitset.specs.Layout.{allowed}

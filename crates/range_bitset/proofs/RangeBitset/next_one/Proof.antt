@@ -1,6 +1,6 @@
 -- `range_bitset::RangeBitset::next_one` meets its contract. Assumes nothing.
-use Rattle.range_bitset.proofs.Queries.{declined, next-empty, next-none, next-one}
-use Rattle.range_bitset.proofs.Heads.{range-accepted}
+use Rattle.range_bitset.proofs.QueryReturns.{declined, next-empty, next-none, next-one}
+use Rattle.range_bitset.proofs.AcceptedHeads.{range-accepted}
 use Rattle.range_bitset.proofs.Kit.{refl, sym, _∙_, trailing-le, arith, needs}
 use Rattle.range_bitset.proofs.RangeBitset.next_one.Statement.{statement}
 use Rattle.range_bitset.proofs.RangeBitset.next_one.Tie as tie

@@ -1,6 +1,6 @@
 -- `range_bitset::RangeBitset::next_zero` meets its contract. Assumes nothing.
-use Rattle.range_bitset.proofs.Queries.{declined, next-empty, next-fresh, next-zero}
-use Rattle.range_bitset.proofs.Heads.{range-accepted}
+use Rattle.range_bitset.proofs.QueryReturns.{declined, next-empty, next-fresh, next-zero}
+use Rattle.range_bitset.proofs.AcceptedHeads.{range-accepted}
 use Rattle.range_bitset.proofs.Kit.{not-true, not-false, refl, sym, _∙_, trailing-le, arith, needs}
 use Rattle.range_bitset.proofs.RangeBitset.next_zero.Statement.{statement}
 use Rattle.range_bitset.proofs.RangeBitset.next_zero.Tie as tie

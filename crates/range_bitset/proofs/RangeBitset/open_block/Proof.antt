@@ -1,5 +1,5 @@
 -- `range_bitset::RangeBitset::open_block` meets its contract. Assumes nothing.
-use Rattle.range_bitset.proofs.Opening.{opens-mixed, opens-full, opens-empty}
+use Rattle.range_bitset.proofs.OpenBlocks.{opens-mixed, opens-full, opens-empty}
 use Rattle.range_bitset.specs.Inner.{stores, openWith}
 use Rattle.range_bitset.proofs.Kit.{ℕ, _*_, ap₂, refl, sym, _∙_, needs}
 use Rattle.range_bitset.proofs.RangeBitset.open_block.Statement.{statement}

@@ -1,5 +1,5 @@
 -- `range_bitset::RangeBitset::refusal` meets its contract. Assumes nothing.
-use Rattle.range_bitset.proofs.Heads.{good-bounds}
+use Rattle.range_bitset.proofs.AcceptedHeads.{good-bounds}
 use Rattle.range_bitset.specs.Answers.{goodHead, storageRefusal}
 use Rattle.range_bitset.specs.Layout.{needed}
 use Rattle.range_bitset.proofs.Kit.{lt-ltb, le-ltb, not-true, not-false, arith, true, false, _≡_, sym, _∙_, needs}

@@ -1,6 +1,6 @@
 -- `range_bitset::RangeBitset::set` meets its contract. Assumes nothing.
-use Rattle.range_bitset.proofs.Changing.{unaccepted, set-idle, set-done}
-use Rattle.range_bitset.proofs.Heads.{point-accepted, room-same}
+use Rattle.range_bitset.proofs.ChangeReturns.{unaccepted, set-idle, set-done}
+use Rattle.range_bitset.proofs.AcceptedHeads.{point-accepted, room-same}
 use Rattle.range_bitset.proofs.Kit.{arith, refl, sym, _∙_, needs}
 use Rattle.range_bitset.proofs.RangeBitset.set.Statement.{statement}
 use Rattle.range_bitset.proofs.RangeBitset.set.Tie as tie

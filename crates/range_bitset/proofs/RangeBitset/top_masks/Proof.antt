@@ -1,7 +1,7 @@
 -- `top_masks` meets its contract. Assumes nothing.
 use Rattle.range_bitset.proofs.Kit.{sym, _∙_, arith, needs}
-use Rattle.range_bitset.proofs.Heads.{accepted}
-use Rattle.range_bitset.proofs.Showing.{hides, tops-shown}
+use Rattle.range_bitset.proofs.AcceptedHeads.{accepted}
+use Rattle.range_bitset.proofs.ShownReturns.{hides, tops-shown}
 use Rattle.range_bitset.proofs.RangeBitset.top_masks.Statement.{statement}
 use Rattle.range_bitset.proofs.RangeBitset.top_masks.Tie as tie
 

@@ -2,7 +2,7 @@
 -- between. Assumes nothing.
 use Rattle.range_bitset.proofs.Kit.{needs, ⊎-elim, refl, _+_, _*_, _-_, _/_, _%_, _≤_, _<_, arith}
 use Rattle.range_bitset.specs.Layout.{wordsOf}
-use Rattle.range_bitset.proofs.Masks.{spans-lt}
+use Rattle.range_bitset.proofs.SpanMasks.{spans-lt}
 use Rattle.range_bitset.proofs.CountPieces.{no-piece, words-piece, LowBlock, EndBlocks, low-block, low-block-none, high-block, high-block-none, blocks-between, no-blocks-between}
 use Rattle.range_bitset.proofs.RangeBitset.whole_words_population.Statement.{statement}
 use Rattle.range_bitset.proofs.RangeBitset.whole_words_population.Tie as tie

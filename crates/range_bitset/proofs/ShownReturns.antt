@@ -11,7 +11,7 @@ use Rattle.range_bitset.specs.declared.MixedBlock.{MixedBlock}
 use Rattle.range_bitset.specs.declared.ShownBlock.{ShownBlock}
 use Rattle.range_bitset.specs.declared.ShownTops.the-variants as tops
 use Rattle.range_bitset.specs.declared.State.{State}
-use Rattle.range_bitset.proofs.Masks.{spans-low}
+use Rattle.range_bitset.proofs.SpanMasks.{spans-low}
 
 -- ---- refused, or shown
 

@@ -13,7 +13,7 @@ use Rattle.range_bitset.specs.Entries.{NextEnsures}
 use Rattle.range_bitset.specs.declared.RangeBitset.{RangeBitset}
 use Rattle.range_bitset.specs.declared.Found.{Found}
 use Rattle.range_bitset.specs.declared.Found.the-variants as found
-use Rattle.range_bitset.proofs.Heads.{range-accepted}
+use Rattle.range_bitset.proofs.AcceptedHeads.{range-accepted}
 use Rattle.ledger.specs.Machine.{Call, Range, Back, Wipe, needOf}
 use Rattle.ledger.specs.Journal.{pairs, entry, written}
 use Rattle.ledger.specs.Entries.{callNeed, mostNeed}

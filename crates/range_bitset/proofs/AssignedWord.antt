@@ -11,10 +11,10 @@ use Rattle.range_bitset.specs.Read.{ALL, mixedRead}
 use Rattle.range_bitset.specs.Represents.{wordOf, anyWord, allWord, nonzeroMask, fullMask, blockCount, only, masked, StoredOpen}
 use Rattle.range_bitset.specs.Inner.{Room, Spans, apart, moved, In, stores, find, AllIn, writeWord, countMoved, Opens, Closes, Assigns}
 use Rattle.range_bitset.proofs.Slots.{leaves-at, twice-at, twice-kept}
-use Rattle.range_bitset.proofs.Words.{in-block, word-same, word-ones, ones-most, block-most, mixed-is}
-use Rattle.range_bitset.proofs.Opening.{open-here}
-use Rattle.range_bitset.proofs.Rewriting.{touches, rewrite-block}
-use Rattle.range_bitset.proofs.Masks.{put-word}
+use Rattle.range_bitset.proofs.SetWords.{in-block, word-same, word-ones, ones-most, block-most, mixed-is}
+use Rattle.range_bitset.proofs.OpenBlocks.{open-here}
+use Rattle.range_bitset.proofs.RewrittenBlock.{touches, rewrite-block}
+use Rattle.range_bitset.proofs.SpanMasks.{put-word}
 
 -- what the storage holds after an opened block is written and closed, put together
 pub assigns-by : (W b X Y : ℕ) (v : Bool) (st st₁ st₃ st₄ : List ℕ) (r : ℕ) → Opens W b st st₁ → SamePast W st₁ st₃ → Closes W b st₃ st₄

@@ -6,7 +6,7 @@ use Rattle.range_bitset.specs.Layout.{blocks, needed, at, topNonzero, to
 use Rattle.range_bitset.specs.Represents.{wordOf, anyBlock, allBlock, closed, masked, Stored}
 use Rattle.range_bitset.specs.Inner.{Room, In, stores, find, beginning, Begins}
 use Rattle.range_bitset.proofs.Slots.{stores-at, leaves-kept}
-use Rattle.range_bitset.proofs.Words.{block-none, none-all-block}
+use Rattle.range_bitset.proofs.SetWords.{block-none, none-all-block}
 
 module _ (W : ℕ) (st : List ℕ) (room : Room W st) (s : Positions) (clear : (i : ℕ) → i < 64 * W → s i ≡ false) where
   word-clear : (k : ℕ) → k < W → wordOf s k ≡ 0

@@ -9,7 +9,7 @@ use Rattle.saved_list.specs.Answers.{headerReply, lengthReply, runsReply
 use Rattle.saved_list.proofs.Bytes.{headed-yes, whole-yes, whole-held}
 use Rattle.saved_list.proofs.Rule.{first-bad-le, none-bad, ascending-none}
 use Rattle.saved_list.proofs.Lists.{runs-length}
-use Rattle.saved_list.proofs.Answers.{headed-fields, length-good, runs-good, found-run}
+use Rattle.saved_list.proofs.ReaderReturns.{headed-fields, length-good, runs-good, found-run}
 
 -- ---- the header
 

@@ -12,7 +12,7 @@ use Rattle.range_bitset.specs.Layout.{blocks, wordsOf, at}
 use Rattle.range_bitset.specs.Read.{ALL, wordRead}
 use Rattle.range_bitset.specs.Represents.{wordOf, closed, Stored}
 use Rattle.range_bitset.specs.Inner.{Spans, Marks, wordStart, blockStart, CandidateWords, CandidateBlocks, NextInWord, NextFrom, Passes}
-use Rattle.range_bitset.proofs.Words.{word-lt, word-bit, word-is}
+use Rattle.range_bitset.proofs.SetWords.{word-lt, word-bit, word-is}
 
 -- ---- ranges that lack a value
 

@@ -5,7 +5,7 @@ use Rattle.positions.specs.Positions.{Positions, count, one}
 use Rattle.positions.specs.Runs.{Run, changedRuns, lengths}
 use Rattle.positions.proofs.Assigned.{changed-le}
 use Rattle.positions.proofs.Changes.{changed-lengths}
-use Rattle.range_bitset.proofs.Heads.{good-bounds}
+use Rattle.range_bitset.proofs.AcceptedHeads.{good-bounds}
 use Rattle.range_bitset.proofs.Slots.{past-same}
 use Rattle.range_bitset.specs.Represents.{Represents, capacityOf}
 use Rattle.positions.specs.Replies.{number, refusal}
@@ -23,7 +23,7 @@ use Rattle.ledger.specs.declared.Last.{Last}
 use Rattle.ledger.specs.declared.Last.the-variants as last
 use Rattle.ledger.proofs.Machines.{standing-entry, reachable-fresh, reachable-step, step-none, step-back, none-standing, set-after-back, journal-length}
 use Rattle.ledger.proofs.Journals.{length-entry, entry-last, packed-runs, packed-value, read-entry}
-use Rattle.ledger.proofs.Reassigning.{read-take, changed-within, any-lengths, back-count}
+use Rattle.ledger.proofs.ReassignedRuns.{read-take, changed-within, any-lengths, back-count}
 use Rattle.ledger.proofs.Refusals.{refused-call, LentEnough, lent-accepted, lent-again, ledger-set, lent-wipes, set-accepts}
 
 -- a call that needs no number is not refused for want of any

@@ -17,8 +17,8 @@ use Rattle.range_bitset.specs.declared.Tested.the-variants as tested
 use Rattle.range_bitset.specs.declared.Counted.the-variants as counted
 use Rattle.range_bitset.specs.declared.Found.{Found}
 use Rattle.range_bitset.specs.declared.Found.the-variants as found
-use Rattle.range_bitset.proofs.Heads.{point-accepted, range-accepted}
-use Rattle.range_bitset.proofs.Words.{word-is, in-word}
+use Rattle.range_bitset.proofs.AcceptedHeads.{point-accepted, range-accepted}
+use Rattle.range_bitset.proofs.SetWords.{word-is, in-word}
 
 -- a refusal
 pub declined : {f : Positions → Reply} (k n : ℕ) (h : RangeBitset) (st : List ℕ) (r : Reply) → n ≡ k → (n ≡ 0 → ⊥) → r ≡ refusal n → Answers k h st f r

@@ -9,7 +9,7 @@ use Rattle.range_bitset.specs.Represents.{wordOf, anyWord, allWord, vali
 use Rattle.range_bitset.specs.Inner.{Room, In, kind, index, Store, _≔_, stores, find, AllIn, openWith, closeClear, closeFull, Opens, Closes}
 use Rattle.range_bitset.specs.declared.State.the-variants.{Empty, Mixed, Full}
 use Rattle.range_bitset.proofs.Slots.{stores-at, leaves-kept}
-use Rattle.range_bitset.proofs.Words.{state-full, state-empty, state-mixed, full-words, full-nonzero, full-full, full-count, clear-words, clear-nonzero, clear-full, clear-count, none-all-block}
+use Rattle.range_bitset.proofs.SetWords.{state-full, state-empty, state-mixed, full-words, full-nonzero, full-full, full-count, clear-words, clear-nonzero, clear-full, clear-count, none-all-block}
 
 -- what changes a truth at b alone, and there to what it is, changes nothing
 same-by : (F : Bool → Bool → Bool) (f : ℕ → Bool) (b c : ℕ) → F true (f b) ≡ f b → ((x : Bool) → F false x ≡ x) → F (eqb c b) (f c) ≡ f c

@@ -13,7 +13,7 @@ use Rattle.bits.proofs.Words.{mask-of, mask-ext, mask-none, mask-all, put-lt, p
 use Rattle.range_bitset.specs.Read.{ALL}
 use Rattle.range_bitset.specs.Represents.{wordOf}
 use Rattle.range_bitset.specs.Inner.{Spans}
-use Rattle.range_bitset.proofs.Words.{word-lt, word-bit, word-same}
+use Rattle.range_bitset.proofs.SetWords.{word-lt, word-bit, word-same}
 
 -- the positions of a..b, counted
 count-within : (a b w : ℕ) → a ≤ b → b ≤ w → count (within a b) 0 w ≡ b - a

@@ -10,7 +10,7 @@ use Rattle.range_bitset.specs.Entries.{newOf as setNew}
 use Rattle.range_bitset.specs.declared.RangeBitset.{RangeBitset}
 use Rattle.range_bitset.specs.declared.Made.{Made}
 use Rattle.range_bitset.specs.declared.Made.the-variants as made
-use Rattle.range_bitset.proofs.Heads.{freshHead, fresh-represents}
+use Rattle.range_bitset.proofs.AcceptedHeads.{freshHead, fresh-represents}
 use Rattle.ledger.specs.Entries.{newHead, newOf, ofOpened, openReply, OpenEnsures}
 use Rattle.ledger.specs.Machine.{openedWith, setOf, used}
 use Rattle.ledger.specs.Memory.{lentEnough, lentRefusal, memory, Holds}
@@ -18,7 +18,7 @@ use Rattle.ledger.specs.Inner.{Within, Reassigns, fileRuns, OpensRuns}
 use Rattle.ledger.specs.declared.Opened.{Opened}
 use Rattle.ledger.proofs.Machines.{reachable-opened}
 use Rattle.ledger.proofs.Refusals.{LentEnough, lent-accepted, set-accepts, lent-again, fresh-refusal, fresh-enough}
-use Rattle.ledger.proofs.Reassigning.{ascending-within, ascending-any}
+use Rattle.ledger.proofs.ReassignedRuns.{ascending-within, ascending-any}
 use Rattle.saved_list.specs.Format.{savedWords, savedCount, savedCapacity, savedRuns, savedPositions, Headed, Whole, headed, whole, firstBadRun}
 use Rattle.positions.specs.Replies.{Refusal, number, refusal}
 use Rattle.saved_list.specs.Answers.{ofHeader, headerReply, ofLengthCheck, lengthReply, ofRunCheck, runsReply}
@@ -30,7 +30,7 @@ use Rattle.saved_list.specs.declared.RunCheck.{RunCheck}
 use Rattle.saved_list.specs.declared.RunCheck.the-variants.{AllGood, BadRun}
 use Rattle.saved_list.proofs.Bytes.{headed-yes, yes-headed, whole-yes, yes-whole, whole-held}
 use Rattle.saved_list.proofs.Lists.{runs-length, all-assigned}
-use Rattle.saved_list.proofs.Opening.{HeaderRead, fields-read, header-refused, length-whole, length-refused, FirstBad, runs-ascending, runs-refused, ascending-count}
+use Rattle.saved_list.proofs.GoodFiles.{HeaderRead, fields-read, header-refused, length-whole, length-refused, FirstBad, runs-ascending, runs-refused, ascending-count}
 use Rattle.ledger.specs.declared.Ledger.{Ledger}
 use Rattle.ledger.specs.declared.Opened.the-variants as opened
 

@@ -15,8 +15,8 @@ use Rattle.range_bitset.specs.Inner.{Room, Spans, Begins, Assigns}
 use Rattle.range_bitset.specs.declared.RangeBitset.{RangeBitset}
 use Rattle.range_bitset.specs.declared.Counted.the-variants as counted
 use Rattle.range_bitset.specs.declared.Tested.the-variants as tested
-use Rattle.range_bitset.proofs.Agreeing.{stored-agrees}
-use Rattle.range_bitset.proofs.Heads.{range-accepted, point-accepted}
+use Rattle.range_bitset.proofs.AgreeingSets.{stored-agrees}
+use Rattle.range_bitset.proofs.AcceptedHeads.{range-accepted, point-accepted}
 
 abbrev headOf : ℕ → ℕ → Bool → RangeBitset
 headOf W n x = record { words = W; len = n; allocated = x }

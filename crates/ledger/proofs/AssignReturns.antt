@@ -12,7 +12,7 @@ use Rattle.range_bitset.specs.declared.RangeBitset.{RangeBitset}
 use Rattle.range_bitset.specs.declared.Assigned.{Assigned}
 use Rattle.range_bitset.specs.declared.Counted.{Counted}
 use Rattle.range_bitset.specs.declared.Counted.the-variants as counted
-use Rattle.range_bitset.proofs.Heads.{range-accepts}
+use Rattle.range_bitset.proofs.AcceptedHeads.{range-accepts}
 use Rattle.ledger.specs.Machine.{Machine, Range, setOf, used, needOf, step, nextOf}
 use Rattle.ledger.specs.Journal.{journalOf}
 use Rattle.ledger.specs.Memory.{Memory, memory, lentRefusal, callRefusal, Holds}

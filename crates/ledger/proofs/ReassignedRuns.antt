@@ -17,7 +17,7 @@ use Rattle.range_bitset.specs.declared.Counted.the-variants as counted
 use Rattle.saved_list.specs.Format.{runAt, runsAfter, heldCount}
 use Rattle.saved_list.proofs.Lists.{runs-more}
 use Rattle.ledger.specs.Inner.{readRuns, changedByRuns, Within, anyRun, Reassigns, AssignsRuns, fileRuns, OpensRuns, countIn}
-use Rattle.range_bitset.proofs.Heads.{storage-again, range-accepts}
+use Rattle.range_bitset.proofs.AcceptedHeads.{storage-again, range-accepts}
 
 -- ---- a list with one run more
 

@@ -7,7 +7,7 @@ use Rattle.range_bitset.specs.Layout.{blocks, wordsOf, at, word, nonzero
 use Rattle.range_bitset.specs.Read.{ALL}
 use Rattle.range_bitset.specs.Represents.{wordOf, anyWord, allWord, valid, nonzeroMask, fullMask, blockCount, anyBlock, allBlock, only, masked, StoredOpen}
 use Rattle.range_bitset.specs.Inner.{In}
-use Rattle.range_bitset.proofs.Words.{word-same, in-block}
+use Rattle.range_bitset.proofs.SetWords.{word-same, in-block}
 
 -- the number at a slot belongs to block b
 unfoldable pub touches : ℕ → Slot → Bool
