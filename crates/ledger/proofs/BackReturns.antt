@@ -208,7 +208,7 @@ module _ (h : Ledger) (st j : List ℕ) where
         record {
           answered = omega (arith, b .changed ok S t w, counted, few);
           represents = subst (λ (x : Positions). Represents h′ st′ x) (set-after-back (m .opened) c cs) (b .reassigns .represents ok S t w);
-          in-use = same-start j l rs (c .value) (h .used) n v room split r ∙ journal-length (m .capacity) (m .opened) cs (mades .1);
+          in-use = same-start j l rs (c .value) (h .used) n v room split r ∙ journal-length (m .capacity) (m .opened) cs (all-stand .1);
           journal = same-journal j l rs (c .value) (h .used) n v room split r;
           flag = b .reassigns .flag ok S t w ∙ ap (λ (x : Bool). h .set .allocated || (not (c .value) && x)) (any-lengths rs ∙ ap (ltb 0) sum);
         }
@@ -225,11 +225,11 @@ module _ (h : Ledger) (st j : List ℕ) where
         rs : List Run
         rs = changedRuns s (c .start) (c .end) (c .value)
 
-        mades : StandAll (m .capacity) (m .opened) (c ∷ cs)
-        mades = rw e at (q .reachable .standing)
+        all-stand : StandAll (m .capacity) (m .opened) (c ∷ cs)
+        all-stand = rw e at (q .reachable .standing)
 
         stands : Stands (m .capacity) s c
-        stands = mades .0
+        stands = all-stand .0
 
         room : h .used ≤ length j
         room = omega (arith, lent .used-most, lent .journal-long)

@@ -26,10 +26,10 @@ pub journal-added : (o : Positions) (cs : List Standing) (a e : ℕ) (v : Bool)
 unfolding standingCall
 journal-added o cs a e v = refl
 
-made-added : (c : ℕ) (o : Positions) (cs : List Standing) (a e : ℕ) (v : Bool) → e ≤ c → StandAll c o cs
+stand-added : (c : ℕ) (o : Positions) (cs : List Standing) (a e : ℕ) (v : Bool) → e ≤ c → StandAll c o cs
     → StandAll c o (added (standingCall (held o cs) a e v) cs)
 unfolding standingCall
-made-added c o cs a e v h k = (record { within = h; as-made = refl }, k)
+stand-added c o cs a e v h k = (record { within = h; as-made = refl }, k)
 
 pub written-length : (s : Positions) (a e : ℕ) (v : Bool) → length (written s a e v) ≡ needOf s a e v
 unfolding written needOf
@@ -81,22 +81,22 @@ journal-length c o (x ∷ xs) k =
     (omega (arith, journal-length c o xs (k .1), ap (λ (y : Standing). y .needed) (k .0 .as-made)))
 
 -- what holds of a machine holds after any call, and after any list of calls
-kept-range : (m : Machine) (a e : ℕ) (v : Bool) → Reachable m → e ≤ m .capacity → needOf (setOf m) a e v ≤ m .journal - used m
+reachable-range : (m : Machine) (a e : ℕ) (v : Bool) → Reachable m → e ≤ m .capacity → needOf (setOf m) a e v ≤ m .journal - used m
     → Reachable (nextOf m (Range a e v))
 unfolding setOf used
-kept-range m a e v k h r =
+reachable-range m a e v k h r =
     record {
       inside = k .inside;
-      standing = made-added (m .capacity) (m .opened) (m .standing) a e v h (k .standing);
+      standing = stand-added (m .capacity) (m .opened) (m .standing) a e v h (k .standing);
       room = rw (needs-added (setOf m) (m .standing) a e v) (omega (arith, k .room));
     }
 
-kept-decided : (m : Machine) (a e : ℕ) (v : Bool) → Reachable m → (p q : Bool) → leb e (m .capacity) ≡ p
+reachable-decided : (m : Machine) (a e : ℕ) (v : Bool) → Reachable m → (p q : Bool) → leb e (m .capacity) ≡ p
     → leb (needOf (setOf m) a e v) (m .journal - used m) ≡ q
     → Reachable (decided (unless p 4 (unless q 6 Admitted)) m (Range a e v) .next)
-kept-decided m a e v k false q x y = k
-kept-decided m a e v k true false x y = k
-kept-decided m a e v k true true x y = kept-range m a e v k (leb-true e (m .capacity) x) (leb-true (needOf (setOf m) a e v) (m .journal - used m) y)
+reachable-decided m a e v k false q x y = k
+reachable-decided m a e v k true false x y = k
+reachable-decided m a e v k true true x y = reachable-range m a e v k (leb-true e (m .capacity) x) (leb-true (needOf (setOf m) a e v) (m .journal - used m) y)
 
 pub reachable-fresh : (capacity j : ℕ) → Reachable (fresh capacity j)
 reachable-fresh capacity j = record { inside = λ i h. refl; standing = tt; room = omega arith }
@@ -104,16 +104,16 @@ reachable-fresh capacity j = record { inside = λ i h. refl; standing = tt; room
 pub reachable-opened : (capacity j : ℕ) (o : Positions) → ((i : ℕ) → capacity ≤ i → o i ≡ false) → Reachable (openedWith capacity j o)
 reachable-opened capacity j o h = record { inside = h; standing = tt; room = omega arith }
 
-kept-back : (capacity j : ℕ) (o : Positions) (cs : List Standing)
+reachable-back : (capacity j : ℕ) (o : Positions) (cs : List Standing)
     → Reachable (record { capacity = capacity; journal = j; opened = o; standing = cs })
     → Reachable (decided (standsAny cs) (record { capacity = capacity; journal = j; opened = o; standing = cs }) Back .next)
-kept-back capacity j o [] k = k
-kept-back capacity j o (c ∷ cs) k = record { inside = k .inside; standing = k .standing .1; room = omega (arith, k .room) }
+reachable-back capacity j o [] k = k
+reachable-back capacity j o (c ∷ cs) k = record { inside = k .inside; standing = k .standing .1; room = omega (arith, k .room) }
 
 pub reachable-step : (m : Machine) (c : Call) → Reachable m → Reachable (step m c .next)
 unfolding step rangeVerdict
-reachable-step m (Range a e v) k = kept-decided m a e v k (leb e (m .capacity)) (leb (needOf (setOf m) a e v) (m .journal - used m)) refl refl
-reachable-step m Back k = kept-back (m .capacity) (m .journal) (m .opened) (m .standing) k
+reachable-step m (Range a e v) k = reachable-decided m a e v k (leb e (m .capacity)) (leb (needOf (setOf m) a e v) (m .journal - used m)) refl refl
+reachable-step m Back k = reachable-back (m .capacity) (m .journal) (m .opened) (m .standing) k
 reachable-step m Wipe k = reachable-fresh (m .capacity) (m .journal)
 
 pub reachable-after : (m : Machine) (cs : List Call) → Reachable m → Reachable (after m cs .last)
