@@ -19,14 +19,14 @@ use Rattle.ledger.specs.Entries.{newOf, ofOpened}
 -- ---- the set's calls, over a head of the capacity whose storage is just long enough
 
 -- the table's refusal, or else the reply
-unfoldable pub within : ℕ → Positions → ℕ → Reply → Reply
-within capacity s e r = cond (eqb k 0) r (refusal k)
+unfoldable pub unlessRefused : ℕ → Positions → ℕ → Reply → Reply
+unlessRefused capacity s e r = cond (eqb k 0) r (refusal k)
   where
     k : ℕ
     k = rangeRefusal (record { words = capacity / 64; len = count s 0 capacity; allocated = true }) (needed (capacity / 64)) e
 
 abbrev pub searched : ℕ → Positions → Bool → ℕ → ℕ → Reply
-searched capacity s v a e = within capacity s e (ofPlace (first s v a e))
+searched capacity s v a e = unlessRefused capacity s e (ofPlace (first s v a e))
 
 pub data SetLine : Type 0 where
   Assign : ℕ → ℕ → Bool → SetLine
@@ -36,8 +36,8 @@ pub data SetLine : Type 0 where
 abbrev pub setReplies : ℕ → Positions → List SetLine → List Reply
 setReplies capacity s [] = []
 setReplies capacity s (Assign a e v ∷ ls) =
-    within capacity s e (number (changedCount s a e v))
-    ∷ setReplies capacity (cond (eqb (refused (within capacity s e (number 0))) 0) (assigned s a e v) s) ls
+    unlessRefused capacity s e (number (changedCount s a e v))
+    ∷ setReplies capacity (cond (eqb (refused (unlessRefused capacity s e (number 0))) 0) (assigned s a e v) s) ls
 setReplies capacity s (Search v a e ∷ ls) = searched capacity s v a e ∷ setReplies capacity s ls
 
 -- ---- the ledger's
@@ -51,7 +51,7 @@ pub data Line : Type 0 where
 abbrev pub replies : Machine → List Line → List Reply
 replies m [] = []
 replies m (Do c ∷ ls) = step m c .answer ∷ replies (step m c .next) ls
-replies m (Count a e ∷ ls) = within (m .capacity) (setOf m) e (number (count (setOf m) a e)) ∷ replies m ls
+replies m (Count a e ∷ ls) = unlessRefused (m .capacity) (setOf m) e (number (count (setOf m) a e)) ∷ replies m ls
 replies m (Next v a e ∷ ls) = searched (m .capacity) (setOf m) v a e ∷ replies m ls
 replies m (Used ∷ ls) = number (used m) ∷ replies m ls
 
@@ -115,7 +115,7 @@ cases =
     ∷ []
 
 pub cases-right : map (λ (c : Case). c .given) cases ≡ map (λ (c : Case). c .wanted) cases
-unfolding within assigned total sumOver countFrom count firstFrom first changedCount runsFrom runs changedRuns ones allowed allowedCapacity goodHead storageRefusal rangeRefusal setOf population needOf standingCall used rangeVerdict step lentEnough newOf
+unfolding unlessRefused assigned total sumOver countFrom count firstFrom first changedCount runsFrom runs changedRuns ones allowed allowedCapacity goodHead storageRefusal rangeRefusal setOf population needOf standingCall used rangeVerdict step lentEnough newOf
 cases-right = refl
 
 -- 4,096 words need 4,290 numbers; the capacities 96 and 524,288 are refused 1

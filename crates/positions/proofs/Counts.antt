@@ -50,14 +50,14 @@ module _ (s t : ℕ → Bool) where
   countFrom-ext a n h = S.over-ext s t (λ i. 1) a n h
 
 -- terms that are all v on the set
-kept-const : (b : Bool) (u v : ℕ) → (b ≡ true → u ≡ v) → onlyIf b u ≡ onlyIf b 1 * v
-kept-const true u v h = h refl ∙ sym (one-mul v)
-kept-const false u v h = sym (zero-mul v)
+only-const : (b : Bool) (u v : ℕ) → (b ≡ true → u ≡ v) → onlyIf b u ≡ onlyIf b 1 * v
+only-const true u v h = h refl ∙ sym (one-mul v)
+only-const false u v h = sym (zero-mul v)
 
 pub over-const : (s : ℕ → Bool) (f : ℕ → ℕ) (v a n : ℕ) → ((i : ℕ) → a ≤ i → i < a + n → s i ≡ true → f i ≡ v) → sumOver s f a n ≡ countFrom s a n * v
 unfolding countFrom sumOver
 over-const s f v a n h =
-    T.total-ext (λ i. onlyIf (s i) (f i)) (λ i. onlyIf (s i) 1 * v) a n (λ i l k. kept-const (s i) (f i) v (h i l k)) ∙ T.total-scale (λ i. onlyIf (s i) 1) v a n
+    T.total-ext (λ i. onlyIf (s i) (f i)) (λ i. onlyIf (s i) 1 * v) a n (λ i l k. only-const (s i) (f i) v (h i l k)) ∙ T.total-scale (λ i. onlyIf (s i) 1) v a n
 
 -- terms that balance one by one
 pub countFrom-balance : (s t p q : Positions) (a n : ℕ) → ((i : ℕ) → one (t i) + one (p i) ≡ one (s i) + one (q i))

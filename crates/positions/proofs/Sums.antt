@@ -5,19 +5,19 @@ use Rattle.positions.proofs.Totals as T
 
 -- ---- one term
 
-kept-diff : (b c : Bool) (v : ℕ) → onlyIf b v ≡ onlyIf (b && not c) v + onlyIf (b && c) v
-kept-diff true true v = sym (zero-add v)
-kept-diff true false v = sym (add-zero v)
-kept-diff false c v = refl
+only-diff : (b c : Bool) (v : ℕ) → onlyIf b v ≡ onlyIf (b && not c) v + onlyIf (b && c) v
+only-diff true true v = sym (zero-add v)
+only-diff true false v = sym (add-zero v)
+only-diff false c v = refl
 
-pub kept-at-most : (b : Bool) (v : ℕ) → onlyIf b v ≤ v
-kept-at-most true v = le-of-eq refl
-kept-at-most false v = zero-le
+pub only-at-most : (b : Bool) (v : ℕ) → onlyIf b v ≤ v
+only-at-most true v = le-of-eq refl
+only-at-most false v = zero-le
 
 -- where only a set's positions matter, an equation is asked for those alone
-kept-ext : (b : Bool) (v u : ℕ) → (b ≡ true → v ≡ u) → onlyIf b v ≡ onlyIf b u
-kept-ext true v u h = h refl
-kept-ext false v u h = refl
+only-ext : (b : Bool) (v u : ℕ) → (b ≡ true → v ≡ u) → onlyIf b v ≡ onlyIf b u
+only-ext true v u h = h refl
+only-ext false v u h = refl
 
 -- ---- the range
 
@@ -53,7 +53,7 @@ module _ (s : ℕ → Bool) (f : ℕ → ℕ) where
 module _ (s : ℕ → Bool) (f g : ℕ → ℕ) where
   pub over-terms : (a n : ℕ) → ((i : ℕ) → a ≤ i → i < a + n → s i ≡ true → f i ≡ g i) → sumOver s f a n ≡ sumOver s g a n
   unfolding sumOver
-  over-terms a n h = T.total-ext (λ i. onlyIf (s i) (f i)) (λ i. onlyIf (s i) (g i)) a n (λ i l k. kept-ext (s i) (f i) (g i) (h i l k))
+  over-terms a n h = T.total-ext (λ i. onlyIf (s i) (f i)) (λ i. onlyIf (s i) (g i)) a n (λ i l k. only-ext (s i) (f i) (g i) (h i l k))
 
 -- every term at most v
 pub over-bound : (s : ℕ → Bool) (f : ℕ → ℕ) (v a n : ℕ) → ((i : ℕ) → a ≤ i → i < a + n → f i ≤ v) → sumOver s f a n ≤ n * v
@@ -61,7 +61,7 @@ unfolding sumOver
 over-bound s f v a n h =
     omega (
       arith,
-      T.total-le (λ i. onlyIf (s i) (f i)) (λ i. v) a n (λ i l k. omega (arith, kept-at-most (s i) (f i), h i l k)),
+      T.total-le (λ i. onlyIf (s i) (f i)) (λ i. v) a n (λ i l k. omega (arith, only-at-most (s i) (f i), h i l k)),
       T.total-const (λ i. v) v a n (λ i l k. refl),
     )
 
@@ -74,7 +74,7 @@ module _ (s t : ℕ → Bool) (f : ℕ → ℕ) where
   pub over-diff : (a n : ℕ) → sumOver s f a n ≡ sumOver (λ i. s i && not (t i)) f a n + sumOver (λ i. s i && t i) f a n
   unfolding sumOver
   over-diff a n =
-      T.total-ext (λ i. onlyIf (s i) (f i)) (λ i. onlyIf (s i && not (t i)) (f i) + onlyIf (s i && t i) (f i)) a n (λ i l k. kept-diff (s i) (t i) (f i))
+      T.total-ext (λ i. onlyIf (s i) (f i)) (λ i. onlyIf (s i && not (t i)) (f i) + onlyIf (s i && t i) (f i)) a n (λ i l k. only-diff (s i) (t i) (f i))
       ∙ T.total-plus (λ i. onlyIf (s i && not (t i)) (f i)) (λ i. onlyIf (s i && t i) (f i)) a n
 
 -- ---- one position

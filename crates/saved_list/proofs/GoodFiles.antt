@@ -128,12 +128,12 @@ found-none bytes i e = go (ltb i (heldCount bytes)) refl e
 
 -- ---- the three together accept exactly the good files
 
-pub record Accepted (bytes : List ℕ) : Type 0 where
+pub record AcceptedFile (bytes : List ℕ) : Type 0 where
   pub by-header : headerReply bytes ≡ Numbers (savedWords bytes ∷ savedCount bytes ∷ [])
   pub by-length : lengthReply bytes ≡ Numbers []
   pub by-runs : runsReply bytes ≡ Numbers []
 
-pub accepted-good : (bytes : List ℕ) → Accepted bytes → Good bytes
+pub accepted-good : (bytes : List ℕ) → AcceptedFile bytes → Good bytes
 accepted-good bytes a =
     let h = length-whole bytes (sym (a .by-length)) in
     record {
@@ -142,7 +142,7 @@ accepted-good bytes a =
       ascending = runs-ascending bytes h (sym (a .by-runs));
     }
 
-pub good-accepted : (bytes : List ℕ) → Good bytes → Accepted bytes
+pub good-accepted : (bytes : List ℕ) → Good bytes → AcceptedFile bytes
 good-accepted bytes g =
     record {
       by-header = headed-fields bytes (g .headed);
