@@ -1,4 +1,4 @@
--- `assign` meets its contract: one law of Recording for each return. `b` is where the lent slices were accepted, `f` where the
+-- `assign` meets its contract: one law of AssignReturns for each return. `b` is where the lent slices were accepted, `f` where the
 -- journal had a number left, `n` where it had room for the runs, `w` where they were written, `a` where the range was given its value.
 -- Assumes nothing.
 use Rattle.ledger.proofs.AssignReturns.{not-lent, outside, none-left, too-many, recorded}
@@ -53,6 +53,9 @@ write-call-requires c κs =
     let l = lent-accepted _ _ _ _ (sym (b .before .refusal .ensures) ∙ b .if1 .left) in
     (omega arith, omega arith)
 
+assign-requires : tie.Need-assign-requires
+assign-requires c κs = search needs
+
 returns-5 : tie.Need-returns-5
 returns-5 c =
     let a = c .before .before .before in
@@ -82,7 +85,7 @@ assign-spec =
     (λ c. search needs)
     returns-4
     write-call-requires
-    (λ c κs. search needs)
+    assign-requires
     (λ c. search needs)
     (λ c. search needs)
     returns-5)

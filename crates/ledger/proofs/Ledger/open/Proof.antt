@@ -28,6 +28,9 @@ returns-6 c =
     let b = c .before .before .before .before in
     open-run _ _ _ _ _ (b .before .before .before .before .before .before .before .before .before .before .before .before .before .read-header .ensures) _ _ (b .before .before .before .before .before .before .before .before .before .before .before .words .given .1) _ (b .before .before .before .before .before .before .before .before .before .new .ensures) _ (b .before .before .before .before .before .before .before .set .given .1) (b .before .before .before .before .before .if1 .left) _ (b .before .before .before .before .check-length .ensures) (b .before .before .enum-told3 .given .1) _ (b .before .refusal .ensures) (b .if2 .left) _ (c .before .before .before .check-runs .ensures) _ (c .before .index .given .1)
 
+assign-file-requires : tie.Need-assign-file-requires
+assign-file-requires c κs = search needs
+
 returns-7 : tie.Need-returns-7
 returns-7 c =
     let b = c .before .before .before .before .before .before .before in
@@ -63,6 +66,6 @@ open-spec =
     (λ c. search needs)
     returns-6
     (λ c. search needs)
-    (λ c κs. search needs)
+    assign-file-requires
     (λ c. search needs)
     returns-7)

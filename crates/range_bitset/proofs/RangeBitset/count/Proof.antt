@@ -1,4 +1,4 @@
--- `count` meets its contract: one law of Queries for each return. Assumes nothing.
+-- `count` meets its contract: one law of QueryReturns for each return. Assumes nothing.
 use Rattle.range_bitset.proofs.Kit.{needs, refl, sym, _∙_, arith}
 use Rattle.range_bitset.proofs.AcceptedHeads.{range-accepted}
 use Rattle.range_bitset.proofs.QueryReturns.{declined, count-nothing, count-empty-set, count-begun}

@@ -1,4 +1,4 @@
--- `range_bitset::RangeBitset::next_after` meets its contract: one law of Searching for each return. Assumes nothing.
+-- `range_bitset::RangeBitset::next_after` meets its contract: one law of SearchReturns for each return. Assumes nothing.
 use Rattle.range_bitset.proofs.SearchReturns.{in-same-block, word-there, past, no-block, block-there, none-in-block, later-there, in-later-block}
 use Rattle.range_bitset.proofs.Kit.{bitAnd, trailing-le, arith, needs}
 use Rattle.range_bitset.proofs.RangeBitset.next_after.Statement.{statement}
