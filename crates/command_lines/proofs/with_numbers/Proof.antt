@@ -21,13 +21,16 @@ returns-6 c = simp (c .enum-told6 .given .1, c .before .before .before .numbers 
 returns-7 : tie.Need-returns-7
 returns-7 c = simp (c .enum-told7 .given .1, c .before .before .before .numbers .given .1)
 
+returns : tie.Need-returns
+returns c = search needs
+
 pub with-numbers-spec : {M : Type 1} → statement M
 with-numbers-spec =
     tie.close
     (tie.spec
     (λ c. search needs)
     (λ c. search needs)
-    (λ c. search needs)
+    returns
     (λ c. search needs)
     (λ c. search needs)
     (λ c. search needs)

@@ -9,6 +9,9 @@ use Rattle.ledger_replay.proofs.code.Tie as tie
 returns-2 : tie.Need-returns-2
 returns-2 c = sym (ap (λ (x : Counted). codeOf (ofCounted x)) (c .before .answer2 .given .1))
 
+returns : tie.Need-returns
+returns c = search needs
+
 pub code-spec : {M : Type 1} → statement M
 code-spec =
     tie.close
@@ -18,5 +21,5 @@ code-spec =
     (λ c. search needs)
     (λ c. search needs)
     (λ c. search needs)
-    (λ c. search needs)
+    returns
     returns-2)

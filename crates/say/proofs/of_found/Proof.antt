@@ -13,14 +13,10 @@ returns c = sym (ap (λ (p : Found). answerOf (low32 (ofFound p))) (c .before .f
 returns-3 : tie.Need-returns-3
 returns-3 c = sym (ap (λ (p : Found). answerOf (low32 (ofFound p))) (c .before .found2 .given .1))
 
+returns-2 : tie.Need-returns-2
+returns-2 c = search needs
+
 pub of-found-spec : {M : Type 1} → statement M
 of-found-spec =
     tie.close
-    (tie.spec
-    (λ c. search needs)
-    (λ c. search needs)
-    (λ c. search needs)
-    (λ c. search needs)
-    returns
-    (λ c. search needs)
-    returns-3)
+    (tie.spec (λ c. search needs) (λ c. search needs) (λ c. search needs) (λ c. search needs) returns returns-2 returns-3)

@@ -8,6 +8,9 @@ use Rattle.say.proofs.print.Tie as tie
 slice-aggregate-write-all : tie.Need-slice-aggregate-write-all
 slice-aggregate-write-all c = sym (length-take-le _ _ (search needs))
 
+returns : tie.Need-returns
+returns c = search needs
+
 pub print-spec : {M : Type 1} → statement M
 print-spec =
     tie.close
@@ -17,4 +20,4 @@ print-spec =
     (λ c. search needs)
     slice-aggregate-write-all
     (λ c κs. search needs)
-    (λ c. search needs))
+    returns)

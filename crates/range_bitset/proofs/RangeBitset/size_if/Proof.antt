@@ -12,5 +12,8 @@ mul-result c =
 returns : tie.Need-returns
 returns c = rw (c .if1 .taken)
 
+returns-2 : tie.Need-returns-2
+returns-2 c = search needs
+
 pub size-if-spec : {M : Type 1} → statement M
-size-if-spec = tie.close (tie.spec mul-result returns (λ c. search needs))
+size-if-spec = tie.close (tie.spec mul-result returns returns-2)
