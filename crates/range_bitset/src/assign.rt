@@ -13,6 +13,8 @@ use crate::Updated;
 use crate::rest;
 use crate::single;
 use crate::span;
+use std::num::wrapping_add_u32;
+use std::num::wrapping_sub_u32;
 
 impl RangeBitset {
     // The population after `changed` positions were set or cleared.
@@ -20,9 +22,9 @@ impl RangeBitset {
         ensures { λ r. ⌜ r ≡ cond value ((len + changed) % 2 ^ 32) ((len + (2 ^ 32 - changed)) % 2 ^ 32) ⌝ }
     {
         if value {
-            std::num::wrapping_add_u32(len, changed)
+            wrapping_add_u32(len, changed)
         } else {
-            std::num::wrapping_sub_u32(len, changed)
+            wrapping_sub_u32(len, changed)
         }
     }
 
@@ -91,11 +93,11 @@ impl RangeBitset {
         let mut whole_to = last_word + 1;
         if end % 64 != 0 {
             let more = Self::assign_in_word(storage, words, last_word, span(0, end % 64), value);
-            changed = std::num::wrapping_add_u32(changed, more);
+            changed = wrapping_add_u32(changed, more);
             whole_to -= 1;
         }
         let more = Self::assign_whole_words(storage, words, whole_from, whole_to, value);
-        std::num::wrapping_add_u32(changed, more)
+        wrapping_add_u32(changed, more)
     }
 
     fn assign_whole_words(
@@ -126,12 +128,12 @@ impl RangeBitset {
         let mut blocks_to = last_block + 1;
         if to % 64 != 0 {
             let more = Self::assign_words(storage, words, last_block, span(0, to % 64), value);
-            changed = std::num::wrapping_add_u32(changed, more);
+            changed = wrapping_add_u32(changed, more);
             blocks_to -= 1;
         }
         if blocks_from < blocks_to {
             let more = Self::assign_blocks(storage, words, span(blocks_from, blocks_to), value);
-            changed = std::num::wrapping_add_u32(changed, more);
+            changed = wrapping_add_u32(changed, more);
         }
         changed
     }

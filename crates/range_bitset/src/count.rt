@@ -10,6 +10,7 @@ use crate::Counted;
 use crate::RangeBitset;
 use crate::rest;
 use crate::span;
+use std::num::wrapping_add_u32;
 
 impl RangeBitset {
     // Number of set positions in `start..end`.
@@ -62,7 +63,7 @@ impl RangeBitset {
             whole_to -= 1;
         }
         let whole = Self::whole_words_population(storage, words, whole_from, whole_to);
-        std::num::wrapping_add_u32(population, whole)
+        wrapping_add_u32(population, whole)
     }
 
     fn whole_words_population(storage: &[u64], words: usize, from: usize, to: usize) -> u32
@@ -91,7 +92,7 @@ impl RangeBitset {
         }
         if blocks_from < blocks_to {
             let whole = Self::blocks_population(storage, words, span(blocks_from, blocks_to));
-            population = std::num::wrapping_add_u32(population, whole);
+            population = wrapping_add_u32(population, whole);
         }
         population
     }

@@ -19,6 +19,8 @@ ghost use mathlib.Core.Path.{_≡_};
 ghost use Prim.Native.Nat.{_+_, _^_, _<_, _≤_};
 ghost use Rattle.bits.specs.Bit.{bit, put};
 ghost use Rattle.range_bitset.specs.Inner.{Spans, apart, moved};
+use std::num::wrapping_add_u64;
+use std::num::wrapping_sub_u64;
 
 mod assign;
 mod clear;
@@ -89,7 +91,7 @@ fn abs_diff(a: u32, b: u32) -> u32
 fn moved(p: u64, old: u32, new: u32) -> u64
     ensures { λ r. ⌜ r ≡ moved p old new ⌝ }
 {
-    std::num::wrapping_add_u64(std::num::wrapping_sub_u64(p, old as u64), new as u64)
+    wrapping_add_u64(wrapping_sub_u64(p, old as u64), new as u64)
 }
 
 pub enum State {

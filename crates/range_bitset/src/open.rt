@@ -23,8 +23,8 @@ impl RangeBitset {
         let population_slot = Self::population_slot(words, block);
         let top_nonzero = Self::top_nonzero_slot(words);
         let top_full = Self::top_full_slot(words);
-        let mixed = combined(storage[top_nonzero], bit, true);
-        let not_full = combined(storage[top_full], bit, false);
+        let mixed = storage[top_nonzero] | bit;
+        let not_full = storage[top_full] & !bit;
         storage[nonzero] = masks;
         storage[full] = masks;
         storage[population_slot] = population;
@@ -61,11 +61,9 @@ impl RangeBitset {
         let top_nonzero = Self::top_nonzero_slot(words);
         let top_full = Self::top_full_slot(words);
         if storage[nonzero] == 0 {
-            storage[top_nonzero] = combined(storage[top_nonzero], bit, false);
-            return;
-        }
-        if storage[full] == Self::valid_words(words, block) {
-            storage[top_full] = combined(storage[top_full], bit, true);
+            storage[top_nonzero] &= !bit;
+        } else if storage[full] == Self::valid_words(words, block) {
+            storage[top_full] |= bit;
         }
     }
 

@@ -12,6 +12,7 @@ use crate::RangeBitset;
 use crate::State;
 use crate::abs_diff;
 use crate::combined;
+use std::num::wrapping_add_u32;
 
 impl RangeBitset {
     // Population of the data words `explicit` of one block.
@@ -23,7 +24,7 @@ impl RangeBitset {
         let mut population = 0u32;
         while explicit != 0 {
             population += u64::count_ones(data[u64::trailing_zeros(explicit) as usize]);
-            explicit = explicit & (explicit - 1);
+            explicit &= explicit - 1;
         }
         population
     }
@@ -145,8 +146,8 @@ impl RangeBitset {
         let mut population = known;
         while mixed != 0 {
             let slot = Self::population_slot(words, u64::trailing_zeros(mixed) as usize);
-            population = std::num::wrapping_add_u32(population, Self::low_u32(storage[slot]));
-            mixed = mixed & (mixed - 1);
+            population = wrapping_add_u32(population, Self::low_u32(storage[slot]));
+            mixed &= mixed - 1;
         }
         population
     }

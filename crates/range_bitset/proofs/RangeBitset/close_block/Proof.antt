@@ -7,16 +7,16 @@ use Rattle.range_bitset.proofs.RangeBitset.close_block.Tie as tie
 
 returns : tie.Need-returns
 returns c =
-    closes-clear _ _ _ _ (c .before .before .before .before .before .before .before .before .before .before .pre .0) (c .before .before .before .before .before .before .before .before .before .before .pre .1)
-    (read-at (c .before .before .before .before .before .before .before .before .before .before .args .storage .now) (c .before .before .before .before .before .before .before .nonzero-slot .ensures) (c .before .before .if1 .taken))
-    (rw (c .combined .ensures, c .before .before .before .before .before .top-nonzero-slot .ensures, c .before .before .before .before .before .before .before .before .single .ensures))
+    closes-clear _ _ _ _ (c .before .before .before .before .before .before .before .before .before .pre .0) (c .before .before .before .before .before .before .before .before .before .pre .1)
+    (read-at (c .before .before .before .before .before .before .before .before .before .args .storage .now) (c .before .before .before .before .before .before .nonzero-slot .ensures) (c .before .if1 .taken))
+    (rw (c .before .before .before .before .top-nonzero-slot .ensures, c .before .before .before .before .before .before .before .single .ensures))
 
 returns-2 : tie.Need-returns-2
 returns-2 c =
-    closes-all _ _ _ _ (c .before .before .before .before .before .before .before .before .before .before .before .before .before .pre .0) (c .before .before .before .before .before .before .before .before .before .before .before .before .before .pre .1)
-    (λ z. c .before .before .before .before .before .if1 .left (read-at (c .before .before .before .before .before .before .before .before .before .before .before .before .before .args .storage .now) (sym (c .before .before .before .before .before .before .before .before .before .before .nonzero-slot .ensures)) z))
-    (read-at (c .before .before .before .before .before .before .before .before .before .before .before .before .before .args .storage .now) (c .before .before .before .before .before .before .before .before .before .full-slot .ensures) (c .before .before .if2 .taken) ∙ c .before .before .before .valid-words .ensures)
-    (rw (c .combined2 .ensures, c .before .before .before .before .before .before .before .top-full-slot .ensures, c .before .before .before .before .before .before .before .before .before .before .before .single .ensures))
+    closes-all _ _ _ _ (c .before .before .before .before .before .before .before .before .before .before .before .before .pre .0) (c .before .before .before .before .before .before .before .before .before .before .before .before .pre .1)
+    (λ z. c .before .before .before .before .if1 .left (read-at (c .before .before .before .before .before .before .before .before .before .before .before .before .args .storage .now) (sym (c .before .before .before .before .before .before .before .before .before .nonzero-slot .ensures)) z))
+    (read-at (c .before .before .before .before .before .before .before .before .before .before .before .before .args .storage .now) (c .before .before .before .before .before .before .before .before .full-slot .ensures) (c .before .if2 .taken) ∙ c .before .before .valid-words .ensures)
+    (rw (c .before .before .before .before .before .before .top-full-slot .ensures, c .before .before .before .before .before .before .before .before .before .before .single .ensures))
 
 returns-3 : tie.Need-returns-3
 returns-3 c =
@@ -38,19 +38,15 @@ close-block-spec =
     (λ c. search needs)
     (λ c. search needs)
     (λ c. search needs)
+    (λ c. search needs)
+    (λ c. search needs)
+    (λ c. search needs)
     (λ c κs. search needs)
+    (λ c. search needs)
     (λ c. search needs)
     (λ c. search needs)
     (λ c. search needs)
     returns
-    (λ c. search needs)
-    (λ c. search needs)
-    (λ c κs. search needs)
-    (λ c. search needs)
-    (λ c. search needs)
-    (λ c κs. search needs)
-    (λ c. search needs)
-    (λ c. search needs)
     (λ c. search needs)
     returns-2
     returns-3)

@@ -17,7 +17,7 @@ slice-write-storage-5 c = simp length-set (omega arith)
 
 returns : tie.Need-returns
 returns c =
-    rw (c .combined2 .ensures, c .before .before .combined .ensures, c .before .before .before .before .top-full-slot .ensures, c .before .before .before .before .before .top-nonzero-slot .ensures, c .before .before .before .before .before .before .population-slot .ensures, c .before .before .before .before .before .before .before .full-slot .ensures, c .before .before .before .before .before .before .before .before .nonzero-slot .ensures, c .before .before .before .before .before .before .before .before .before .single .ensures)
+    rw (c .before .before .top-full-slot .ensures, c .before .before .before .top-nonzero-slot .ensures, c .before .before .before .before .population-slot .ensures, c .before .before .before .before .before .full-slot .ensures, c .before .before .before .before .before .before .nonzero-slot .ensures, c .before .before .before .before .before .before .before .single .ensures)
 
 pub open-with-spec : {M : Type 1} → statement M
 open-with-spec =
@@ -31,10 +31,8 @@ open-with-spec =
     (λ c κs. search needs)
     (λ c. search needs)
     (λ c. search needs)
-    (λ c κs. search needs)
     (λ c. search needs)
     (λ c. search needs)
-    (λ c κs. search needs)
     (λ c. search needs)
     (λ c. search needs)
     (λ c. search needs)
