@@ -56,13 +56,11 @@ impl RangeBitset {
         ensures { λ r. ⌜ Closes words block (now (storage .entry)) (now (storage .exit)) ⌝ }
     {
         let bit = single(block);
-        let nonzero = Self::nonzero_slot(words, block);
-        let full = Self::full_slot(words, block);
         let top_nonzero = Self::top_nonzero_slot(words);
         let top_full = Self::top_full_slot(words);
-        if storage[nonzero] == 0 {
+        if storage[Self::nonzero_slot(words, block)] == 0 {
             storage[top_nonzero] &= !bit;
-        } else if storage[full] == Self::valid_words(words, block) {
+        } else if storage[Self::full_slot(words, block)] == Self::valid_words(words, block) {
             storage[top_full] |= bit;
         }
     }

@@ -16,15 +16,12 @@ impl RangeBitset {
         requires { ⌜ Room words (now storage) × (block < blocks words) ⌝ }
         ensures { λ r. ⌜ r ≡ stateOf words (now (storage .entry)) block ⌝ }
     {
-        let full = Self::top_full_slot(words);
-        if has_bit(storage[full], block) {
-            return State::Full;
-        }
-        let nonzero = Self::top_nonzero_slot(words);
-        if has_bit(storage[nonzero], block) {
-            State::Mixed
-        } else {
+        if has_bit(storage[Self::top_full_slot(words)], block) {
+            State::Full
+        } else if !has_bit(storage[Self::top_nonzero_slot(words)], block) {
             State::Empty
+        } else {
+            State::Mixed
         }
     }
 
@@ -34,15 +31,12 @@ impl RangeBitset {
         ensures { λ r. ⌜ r ≡ mixedRead words (now (storage .entry)) word ⌝ }
     {
         let block = word / 64;
-        let full = Self::full_slot(words, block);
-        if has_bit(storage[full], word % 64) {
-            return ALL;
-        }
-        let nonzero = Self::nonzero_slot(words, block);
-        if has_bit(storage[nonzero], word % 64) {
-            storage[word]
-        } else {
+        if has_bit(storage[Self::full_slot(words, block)], word % 64) {
+            ALL
+        } else if !has_bit(storage[Self::nonzero_slot(words, block)], word % 64) {
             0
+        } else {
+            storage[word]
         }
     }
 

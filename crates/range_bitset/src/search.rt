@@ -28,11 +28,9 @@ impl RangeBitset {
             State::Full => if value { valid } else { 0 },
             State::Mixed => {
                 if value {
-                    let nonzero = Self::nonzero_slot(words, block);
-                    valid & storage[nonzero]
+                    valid & storage[Self::nonzero_slot(words, block)]
                 } else {
-                    let full = Self::full_slot(words, block);
-                    valid & !storage[full]
+                    valid & !storage[Self::full_slot(words, block)]
                 }
             }
         }
@@ -45,11 +43,9 @@ impl RangeBitset {
     {
         let valid = span(0, Self::blocks(words));
         if value {
-            let nonzero = Self::top_nonzero_slot(words);
-            valid & storage[nonzero]
+            valid & storage[Self::top_nonzero_slot(words)]
         } else {
-            let full = Self::top_full_slot(words);
-            valid & !storage[full]
+            valid & !storage[Self::top_full_slot(words)]
         }
     }
 

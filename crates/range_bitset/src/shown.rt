@@ -21,11 +21,9 @@ impl RangeBitset {
             return ShownTops::Refused(refused);
         }
         let words = self.words as usize;
-        let nonzero = Self::top_nonzero_slot(words);
-        let full = Self::top_full_slot(words);
         ShownTops::Tops(Tops {
-            nonzero: storage[nonzero],
-            full: storage[full],
+            nonzero: storage[Self::top_nonzero_slot(words)],
+            full: storage[Self::top_full_slot(words)],
             valid: span(0, Self::blocks(words)),
         })
     }
@@ -34,15 +32,12 @@ impl RangeBitset {
         requires { ⌜ Room words (now storage) × (block < blocks words) ⌝ }
         ensures { λ r. ⌜ r ≡ mixedOf words (now (storage .entry)) block ⌝ }
     {
-        let nonzero = Self::nonzero_slot(words, block);
-        let full = Self::full_slot(words, block);
-        let population = Self::population_slot(words, block);
         let valid = Self::valid_words(words, block);
         MixedBlock {
-            nonzero: storage[nonzero],
-            full: storage[full],
+            nonzero: storage[Self::nonzero_slot(words, block)],
+            full: storage[Self::full_slot(words, block)],
             valid,
-            population: storage[population],
+            population: storage[Self::population_slot(words, block)],
             counted: Self::mixed_words_population(storage, words, block, valid),
         }
     }

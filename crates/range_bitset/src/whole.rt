@@ -39,10 +39,8 @@ impl RangeBitset {
         requires { ⌜ Room words (now storage) × (block < blocks words) × (mask < 2 ^ wordsOf words block) ⌝ }
         ensures { λ r. ⌜ (r ≡ mixedCount words (now (storage .entry)) block mask) × (r ≤ 4096) ⌝ }
     {
-        let full_slot = Self::full_slot(words, block);
-        let nonzero_slot = Self::nonzero_slot(words, block);
-        let full = storage[full_slot] & mask;
-        let explicit = storage[nonzero_slot] & !full & mask;
+        let full = storage[Self::full_slot(words, block)] & mask;
+        let explicit = storage[Self::nonzero_slot(words, block)] & !full & mask;
         let from = 64 * block;
         let to = from + Self::words_per_block(words, block);
         let stored = Self::stored_population(&storage[from..to], explicit);
@@ -145,8 +143,9 @@ impl RangeBitset {
         let mut mixed = mixed;
         let mut population = known;
         while mixed != 0 {
-            let slot = Self::population_slot(words, u64::trailing_zeros(mixed) as usize);
-            population = wrapping_add_u32(population, Self::low_u32(storage[slot]));
+            let block = u64::trailing_zeros(mixed) as usize;
+            let kept = Self::low_u32(storage[Self::population_slot(words, block)]);
+            population = wrapping_add_u32(population, kept);
             mixed &= mixed - 1;
         }
         population
@@ -158,10 +157,8 @@ impl RangeBitset {
         requires { ⌜ Room words (now storage) × (mask < 2 ^ blocks words) ⌝ }
         ensures { λ r. ⌜ r ≡ blocksCount words (now (storage .entry)) mask ⌝ }
     {
-        let top_full = Self::top_full_slot(words);
-        let top_nonzero = Self::top_nonzero_slot(words);
-        let full = mask & storage[top_full];
-        let mixed = mask & storage[top_nonzero] & !full;
+        let full = mask & storage[Self::top_full_slot(words)];
+        let mixed = mask & storage[Self::top_nonzero_slot(words)] & !full;
         Self::kept_populations(storage, words, mixed, u64::count_ones(full) * 4096)
     }
 }

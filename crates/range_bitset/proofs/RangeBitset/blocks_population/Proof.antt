@@ -18,16 +18,16 @@ returns : tie.Need-returns
 returns c =
     let a = c .before .before .before .before .before .before .args in
     c .kept-populations .ensures
-    ∙ blocks-total (a .words) (a .storage .now) (a .mask) _ _ (c .before .before .before .before .top-full-slot .ensures) (c .before .before .before .top-nonzero-slot .ensures) (c .before .before .before .before .before .before .fits .mask .fits)
+    ∙ blocks-total (a .words) (a .storage .now) (a .mask) _ _ (c .before .before .before .before .top-full-slot .ensures) (c .before .before .top-nonzero-slot .ensures) (c .before .before .before .before .before .before .fits .mask .fits)
 
 pub blocks-population-spec : {M : Type 1} → statement M
 blocks-population-spec =
     tie.close
     (tie.spec
     (λ c κs. search needs)
+    (λ c. search needs)
+    (λ c. search needs)
     (λ c κs. search needs)
-    (λ c. search needs)
-    (λ c. search needs)
     (λ c. search needs)
     (λ c. search needs)
     mul-kept-populations

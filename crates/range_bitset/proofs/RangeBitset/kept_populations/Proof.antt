@@ -19,8 +19,8 @@ abbrev μ-loop : tie.MeasureT-loop
 loop-holds : tie.Need-loop-holds Inv-loop μ-loop
 loop-holds c = (refl, c .before .pre .1, omega (arith, c .before .fits .known .fits))
 
-cast-population-slot : tie.Need-cast-population-slot Inv-loop μ-loop
-cast-population-slot c = omega (arith, trailing-le 64 (c .before .loop .mixed))
+cast-block : tie.Need-cast-block Inv-loop μ-loop
+cast-block c = omega (arith, trailing-le 64 (c .before .loop .mixed))
 
 population-slot-requires : tie.Need-population-slot-requires Inv-loop μ-loop
 population-slot-requires c κs =
@@ -64,7 +64,7 @@ kept-populations-spec =
     Inv-loop
     μ-loop
     loop-holds
-    cast-population-slot
+    cast-block
     population-slot-requires
     mul-low-u32
     shared-slice-read-low-u32
