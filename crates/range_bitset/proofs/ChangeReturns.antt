@@ -220,8 +220,8 @@ module _ (h : RangeBitset) (st : List ℕ) (z : storageRefusal h (length st) ≡
   empty : 0 ≡ count none 0 (capacityOf h)
   empty = sym (count-none none 0 (capacityOf h) (λ i p q. refl))
 
-  pub clear-idle : eqb (h .len) 0 ≡ true → ClearEnsures h st (record { answer = counted.Count 0; head = h }) st
-  clear-idle f =
+  pub clear-idle : h .len ≡ 0 → ClearEnsures h st (record { answer = counted.Count 0; head = h }) st
+  clear-idle nothing =
       record {
         refuses = sym z;
         accepts = λ w. tt;
@@ -238,20 +238,17 @@ module _ (h : RangeBitset) (st : List ℕ) (z : storageRefusal h (length st) ≡
               counted = nothing ∙ empty;
             };
       }
-    where
-      nothing : h .len ≡ 0
-      nothing = eqb-true _ _ f
 
-  pub clear-done : (st′ : List ℕ) → eqb (h .len) 0 ≡ false → Begins (h .words) false st st′
+  pub clear-done : (st′ : List ℕ) → (h .len ≡ 0 → ⊥) → Begins (h .words) false st st′
       → ClearEnsures h st (record { answer = counted.Count (h .len); head = record { words = h .words; len = 0; allocated = h .allocated } }) st′
-  clear-done st′ f b =
+  clear-done st′ some b =
       record {
         refuses = sym z;
         accepts = λ w. tt;
         unchanged = λ w. absurd (w z);
         storage-kept = b .storage-kept;
         same-words = refl;
-        idle = λ w o. absurd (eqb-false _ _ f o);
+        idle = λ w o. absurd (some o);
         answers = λ w s t. ap number (t .counted);
         head = λ w s t. head-is (headOf (h .words) 0 (h .allocated)) _ _ empty (sym (or-false (h .allocated)));
         represents = λ w s t.

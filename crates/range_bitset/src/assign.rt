@@ -46,28 +46,26 @@ impl RangeBitset {
                 head: self,
             };
         }
-        let words = self.words;
-        let len = self.len;
-        let allocated = self.allocated;
         if start >= end {
             return Assigned {
                 answer: Counted::Count(0),
                 head: self,
             };
         }
-        if Self::idle(value, len) {
+        if Self::idle(value, self.len) {
             return Assigned {
                 answer: Counted::Count(0),
                 head: self,
             };
         }
-        Self::ensure_storage(storage, words as usize, allocated);
-        let changed = Self::assign_range(storage, words as usize, start, end, value);
+        let words = self.words as usize;
+        Self::ensure_storage(storage, words, self.allocated);
+        let changed = Self::assign_range(storage, words, start, end, value);
         Assigned {
             answer: Counted::Count(changed),
             head: RangeBitset {
-                words,
-                len: Self::shifted(len, changed, value),
+                words: self.words,
+                len: Self::shifted(self.len, changed, value),
                 allocated: true,
             },
         }
@@ -149,23 +147,21 @@ impl RangeBitset {
                 head: self,
             };
         }
-        let words = self.words;
-        let len = self.len;
-        let allocated = self.allocated;
-        if Self::idle(value, len) {
+        if Self::idle(value, self.len) {
             return Updated {
                 answer: Tested::Is(false),
                 head: self,
             };
         }
-        Self::ensure_storage(storage, words as usize, allocated);
+        let words = self.words as usize;
+        Self::ensure_storage(storage, words, self.allocated);
         let bit = single(index % 64);
-        let changed = Self::assign_in_word(storage, words as usize, index / 64, bit, value);
+        let changed = Self::assign_in_word(storage, words, index / 64, bit, value);
         Updated {
             answer: Tested::Is(changed != 0),
             head: RangeBitset {
-                words,
-                len: Self::shifted(len, changed, value),
+                words: self.words,
+                len: Self::shifted(self.len, changed, value),
                 allocated: true,
             },
         }

@@ -16,22 +16,19 @@ impl RangeBitset {
                 head: self,
             };
         }
-        let words = self.words;
-        let len = self.len;
-        let allocated = self.allocated;
-        if Self::idle(false, len) {
+        if self.len == 0 {
             return Assigned {
                 answer: Counted::Count(0),
                 head: self,
             };
         }
-        Self::ensure_storage(storage, words as usize, false);
+        Self::ensure_storage(storage, self.words as usize, false);
         Assigned {
-            answer: Counted::Count(len),
+            answer: Counted::Count(self.len),
             head: RangeBitset {
-                words,
+                words: self.words,
                 len: 0,
-                allocated,
+                allocated: self.allocated,
             },
         }
     }

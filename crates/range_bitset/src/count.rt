@@ -21,15 +21,13 @@ impl RangeBitset {
         if refused != 0 {
             return Counted::Refused(refused);
         }
-        let words = self.words;
-        let len = self.len;
         if start >= end {
             return Counted::Count(0);
         }
-        if len == 0 {
+        if self.len == 0 {
             return Counted::Count(0);
         }
-        Counted::Count(Self::count_range(storage, words as usize, start, end))
+        Counted::Count(Self::count_range(storage, self.words as usize, start, end))
     }
 
     // How many bits of `mask` data word `word` has.

@@ -59,8 +59,7 @@ impl RangeBitset {
         if refused != 0 {
             return Tested::Refused(refused);
         }
-        let allocated = self.allocated;
-        if !allocated {
+        if !self.allocated {
             return Tested::Is(false);
         }
         let bits = Self::word(storage, self.words as usize, index / 64);

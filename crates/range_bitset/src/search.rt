@@ -119,19 +119,18 @@ impl RangeBitset {
         if refused != 0 {
             return Found::Refused(refused);
         }
-        let words = self.words;
-        let len = self.len;
         if from >= end {
             return Found::Nothing;
         }
-        if len == 0 {
+        if self.len == 0 {
             return Found::Nothing;
         }
-        let bits = Self::bits_from(storage, words as usize, from, true);
+        let words = self.words as usize;
+        let bits = Self::bits_from(storage, words, from, true);
         if bits != 0 {
             return Self::below(from / 64 * 64 + u64::trailing_zeros(bits) as usize, end);
         }
-        Self::below(Self::next_after(storage, words as usize, from, true), end)
+        Self::below(Self::next_after(storage, words, from, true), end)
     }
 
     // First clear position in `from..end`.
@@ -142,18 +141,17 @@ impl RangeBitset {
         if refused != 0 {
             return Found::Refused(refused);
         }
-        let words = self.words;
-        let allocated = self.allocated;
         if from >= end {
             return Found::Nothing;
         }
-        if !allocated {
+        if !self.allocated {
             return Found::At(from);
         }
-        let bits = Self::bits_from(storage, words as usize, from, false);
+        let words = self.words as usize;
+        let bits = Self::bits_from(storage, words, from, false);
         if bits != 0 {
             return Self::below(from / 64 * 64 + u64::trailing_zeros(bits) as usize, end);
         }
-        Self::below(Self::next_after(storage, words as usize, from, false), end)
+        Self::below(Self::next_after(storage, words, from, false), end)
     }
 }

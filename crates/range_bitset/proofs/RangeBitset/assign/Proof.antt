@@ -16,18 +16,18 @@ returns-3 c =
     assign-idle _ _ _ _ _ (sym (c .before .before .before .before .range-refusal .ensures) ∙ c .before .before .before .if1 .left) (sym (c .before .idle .ensures) ∙ c .if3 .taken)
 
 ensure-storage-requires : tie.Need-ensure-storage-requires
-ensure-storage-requires c κs = range-accepted _ _ _ (sym (c .before .before .before .before .before .range-refusal .ensures) ∙ c .before .before .before .before .if1 .left) .0
+ensure-storage-requires c κs = range-accepted _ _ _ (sym (c .before .before .before .before .before .before .range-refusal .ensures) ∙ c .before .before .before .before .before .if1 .left) .0
 
 assign-range-requires : tie.Need-assign-range-requires
 assign-range-requires c κs =
-    let q = range-accepted (c .before .before .before .before .before .before .before .before .before .before .before .args .self) (c .before .before .before .before .before .before .before .before .before .before .before .args .storage .now) (c .before .before .before .before .before .before .before .before .before .before .before .args .end) (sym (c .before .before .before .before .before .before .before .before .before .range-refusal .ensures) ∙ c .before .before .before .before .before .before .before .before .if1 .left) in
-    (room-same _ _ _ (q .0) (c .before .before .before .ensure-storage .kept .0), c .before .before .before .before .before .before .before .if2 .left, q .1)
+    let q = range-accepted (c .before .before .before .before .before .before .before .before .before .before .before .before .args .self) (c .before .before .before .before .before .before .before .before .before .before .before .before .args .storage .now) (c .before .before .before .before .before .before .before .before .before .before .before .before .args .end) (sym (c .before .before .before .before .before .before .before .before .before .before .range-refusal .ensures) ∙ c .before .before .before .before .before .before .before .before .before .if1 .left) in
+    (room-same _ _ _ (q .0) (c .before .before .before .ensure-storage .kept .0), c .before .before .before .before .before .before .before .before .if2 .left, q .1)
 
 returns-4 : tie.Need-returns-4
 returns-4 c =
-    assign-done _ _ _ _ _ (sym (c .before .before .before .before .before .before .before .before .before .before .before .before .before .range-refusal .ensures) ∙ c .before .before .before .before .before .before .before .before .before .before .before .before .if1 .left) (c .before .before .before .before .before .before .before .ensure-storage .last .0) _ (c .before .before .before .assign-range .result) (c .shifted .result)
-    (c .before .before .before .before .before .before .before .before .before .before .before .if2 .left)
-    (sym (c .before .before .before .before .before .before .before .before .before .before .idle .ensures) ∙ c .before .before .before .before .before .before .before .before .before .if3 .left)
+    assign-done _ _ _ _ _ (sym (c .before .before .before .before .before .before .before .before .before .before .before .before .before .before .range-refusal .ensures) ∙ c .before .before .before .before .before .before .before .before .before .before .before .before .before .if1 .left) (c .before .before .before .before .before .before .before .ensure-storage .last .0) _ (c .before .before .before .assign-range .result) (c .shifted .result)
+    (c .before .before .before .before .before .before .before .before .before .before .before .before .if2 .left)
+    (sym (c .before .before .before .before .before .before .before .before .before .before .before .idle .ensures) ∙ c .before .before .before .before .before .before .before .before .before .before .if3 .left)
     (c .before .before .before .before .before .before .before .ensure-storage .ensures)
     (c .before .before .before .assign-range .ensures)
     (c .shifted .ensures)
@@ -43,7 +43,6 @@ assign-spec =
     returns-3
     (λ c. search needs)
     ensure-storage-requires
-    (λ c. search needs)
     assign-range-requires
     (λ c κs. search needs)
     (λ c. search needs)

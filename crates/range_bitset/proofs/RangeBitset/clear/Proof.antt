@@ -9,15 +9,15 @@ returns : tie.Need-returns
 returns c = unaccepted _ _ _ _ _ (c .before .refusal .ensures) (c .if1 .taken) refl
 
 returns-2 : tie.Need-returns-2
-returns-2 c = clear-idle _ _ (sym (c .before .before .before .refusal .ensures) ∙ c .before .before .if1 .left) (sym (c .before .idle .ensures) ∙ c .if2 .taken)
+returns-2 c = clear-idle _ _ (sym (c .before .before .before .refusal .ensures) ∙ c .before .before .if1 .left) (c .if2 .taken)
 
 ensure-storage-requires : tie.Need-ensure-storage-requires
-ensure-storage-requires c κs = accepted _ _ (sym (c .before .before .before .before .refusal .ensures) ∙ c .before .before .before .if1 .left)
+ensure-storage-requires c κs = accepted _ _ (sym (c .before .before .before .before .before .refusal .ensures) ∙ c .before .before .before .before .if1 .left)
 
 returns-3 : tie.Need-returns-3
 returns-3 c =
-    clear-done _ _ (sym (c .before .before .before .before .before .before .before .refusal .ensures) ∙ c .before .before .before .before .before .before .if1 .left) _
-    (sym (c .before .before .before .before .before .idle .ensures) ∙ c .before .before .before .before .if2 .left) (c .before .before .ensure-storage .ensures)
+    clear-done _ _ (sym (c .before .before .before .before .before .before .before .before .refusal .ensures) ∙ c .before .before .before .before .before .before .before .if1 .left) _
+    (c .before .before .before .before .before .if2 .left) (c .before .before .ensure-storage .ensures)
 
 pub clear-spec : {M : Type 1} → statement M
 clear-spec =
@@ -25,7 +25,6 @@ clear-spec =
     (tie.spec
     (λ c κs. search needs)
     returns
-    (λ c κs. search needs)
     returns-2
     (λ c. search needs)
     ensure-storage-requires

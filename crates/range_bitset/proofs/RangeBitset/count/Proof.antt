@@ -15,17 +15,17 @@ returns-2 c =
 
 returns-3 : tie.Need-returns-3
 returns-3 c =
-    count-empty-set _ _ _ _ (sym (c .before .before .before .range-refusal .ensures) ∙ c .before .before .if1 .left) (c .if3 .taken)
+    count-empty-set _ _ _ _ (sym (c .before .before .before .before .range-refusal .ensures) ∙ c .before .before .before .if1 .left) (c .if3 .taken)
 
 count-range-requires : tie.Need-count-range-requires
 count-range-requires c κs =
-    let a = c .before .before .before .before .before .args in
-    let q = range-accepted (a .self) (a .storage .now) (a .end) (sym (c .before .before .before .range-refusal .ensures) ∙ c .before .before .if1 .left) in
-    (q .0, omega (arith, c .before .if2 .left), q .1)
+    let a = c .before .before .before .before .before .before .before .args in
+    let q = range-accepted (a .self) (a .storage .now) (a .end) (sym (c .before .before .before .before .before .range-refusal .ensures) ∙ c .before .before .before .before .if1 .left) in
+    (q .0, omega (arith, c .before .before .before .if2 .left), q .1)
 
 returns-4 : tie.Need-returns-4
 returns-4 c =
-    count-begun _ _ _ _ (sym (c .before .before .before .before .range-refusal .ensures) ∙ c .before .before .before .if1 .left) _ (c .before .if3 .left) (c .count-range .ensures)
+    count-begun _ _ _ _ (sym (c .before .before .before .before .before .before .range-refusal .ensures) ∙ c .before .before .before .before .before .if1 .left) _ (c .before .before .if3 .left) (c .count-range .ensures)
 
 pub count-spec : {M : Type 1} → statement M
 count-spec =

@@ -12,34 +12,34 @@ returns-2 : tie.Need-returns-2
 returns-2 c = next-empty _ _ _ _ (sym (c .before .before .range-refusal .ensures) ∙ c .before .if1 .left) _ (c .if2 .taken)
 
 returns-3 : tie.Need-returns-3
-returns-3 c = next-none _ _ _ _ (sym (c .before .before .before .range-refusal .ensures) ∙ c .before .before .if1 .left) (c .if3 .taken)
+returns-3 c = next-none _ _ _ _ (sym (c .before .before .before .before .range-refusal .ensures) ∙ c .before .before .before .if1 .left) (c .if3 .taken)
 
 bits-from-requires : tie.Need-bits-from-requires
 bits-from-requires c κs =
-    let q = range-accepted _ _ _ (sym (c .before .before .before .range-refusal .ensures) ∙ c .before .before .if1 .left) in
-    (q .0, omega (arith, q .1, c .before .if2 .left))
+    let q = range-accepted _ _ _ (sym (c .before .before .before .before .before .range-refusal .ensures) ∙ c .before .before .before .before .if1 .left) in
+    (q .0, omega (arith, q .1, c .before .before .before .if2 .left))
 
 cast-below : tie.Need-cast-below
 cast-below c = omega (arith, trailing-le 64 (c .before .bits-from .result))
 
 add-below : tie.Need-add-below
 add-below c =
-    let a = c .before .before .before .before .before .before .before .args in
-    let q = range-accepted (a .self) (a .storage .now) (a .end) (sym (c .before .before .before .before .before .range-refusal .ensures) ∙ c .before .before .before .before .if1 .left) in
-    omega (arith, trailing-le 64 (c .before .bits-from .result), q .0 .most, q .1, c .before .before .before .if2 .left)
+    let a = c .before .before .before .before .before .before .before .before .before .args in
+    let q = range-accepted (a .self) (a .storage .now) (a .end) (sym (c .before .before .before .before .before .before .before .range-refusal .ensures) ∙ c .before .before .before .before .before .before .if1 .left) in
+    omega (arith, trailing-le 64 (c .before .bits-from .result), q .0 .most, q .1, c .before .before .before .before .before .if2 .left)
 
 returns-4 : tie.Need-returns-4
 returns-4 c =
-    next-one _ _ _ _ (sym (c .before .before .before .before .before .before .range-refusal .ensures) ∙ c .before .before .before .before .before .if1 .left) _ (c .below .result) (c .before .before .before .if3 .left) (c .before .before .bits-from .ensures .some (c .before .if4 .taken)) (c .below .ensures)
+    next-one _ _ _ _ (sym (c .before .before .before .before .before .before .before .before .range-refusal .ensures) ∙ c .before .before .before .before .before .before .before .if1 .left) _ (c .below .result) (c .before .before .before .before .if3 .left) (c .before .before .bits-from .ensures .some (c .before .if4 .taken)) (c .below .ensures)
 
 next-after-requires : tie.Need-next-after-requires
 next-after-requires c κs =
-    let q = range-accepted _ _ _ (sym (c .before .before .before .before .before .range-refusal .ensures) ∙ c .before .before .before .before .if1 .left) in
-    (q .0, omega (arith, q .1, c .before .before .before .if2 .left))
+    let q = range-accepted _ _ _ (sym (c .before .before .before .before .before .before .before .range-refusal .ensures) ∙ c .before .before .before .before .before .before .if1 .left) in
+    (q .0, omega (arith, q .1, c .before .before .before .before .before .if2 .left))
 
 returns-5 : tie.Need-returns-5
 returns-5 c =
-    next-one _ _ _ _ (sym (c .before .before .before .before .before .before .before .range-refusal .ensures) ∙ c .before .before .before .before .before .before .if1 .left) _ (c .below2 .result) (c .before .before .before .before .if3 .left) (c .before .next-after .ensures (c .before .before .before .bits-from .ensures .none (c .before .before .if4 .left))) (c .below2 .ensures)
+    next-one _ _ _ _ (sym (c .before .before .before .before .before .before .before .before .before .range-refusal .ensures) ∙ c .before .before .before .before .before .before .before .before .if1 .left) _ (c .below2 .result) (c .before .before .before .before .before .if3 .left) (c .before .next-after .ensures (c .before .before .before .bits-from .ensures .none (c .before .before .if4 .left))) (c .below2 .ensures)
 
 pub next-one-spec : {M : Type 1} → statement M
 next-one-spec =
@@ -56,7 +56,6 @@ next-one-spec =
     add-below
     (λ c κs. search needs)
     returns-4
-    (λ c. search needs)
     next-after-requires
     (λ c κs. search needs)
     returns-5)

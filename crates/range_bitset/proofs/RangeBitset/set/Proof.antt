@@ -12,17 +12,17 @@ returns-2 : tie.Need-returns-2
 returns-2 c = set-idle _ _ _ _ (sym (c .before .before .before .point-refusal .ensures) ∙ c .before .before .if1 .left) (sym (c .before .idle .ensures) ∙ c .if2 .taken)
 
 ensure-storage-requires : tie.Need-ensure-storage-requires
-ensure-storage-requires c κs = point-accepted _ _ _ (sym (c .before .before .before .before .point-refusal .ensures) ∙ c .before .before .before .if1 .left) .0
+ensure-storage-requires c κs = point-accepted _ _ _ (sym (c .before .before .before .before .before .point-refusal .ensures) ∙ c .before .before .before .before .if1 .left) .0
 
 assign-in-word-requires : tie.Need-assign-in-word-requires
 assign-in-word-requires c κs =
-    let q = point-accepted (c .before .before .before .before .before .before .before .before .before .before .before .args .self) (c .before .before .before .before .before .before .before .before .before .before .before .args .storage .now) (c .before .before .before .before .before .before .before .before .before .before .before .args .index) (sym (c .before .before .before .before .before .before .before .before .before .point-refusal .ensures) ∙ c .before .before .before .before .before .before .before .before .if1 .left) in
+    let q = point-accepted (c .before .before .before .before .before .before .before .before .before .before .before .before .args .self) (c .before .before .before .before .before .before .before .before .before .before .before .before .args .storage .now) (c .before .before .before .before .before .before .before .before .before .before .before .before .args .index) (sym (c .before .before .before .before .before .before .before .before .before .before .point-refusal .ensures) ∙ c .before .before .before .before .before .before .before .before .before .if1 .left) in
     (room-same _ _ _ (q .0) (c .before .before .before .before .ensure-storage .kept .0), omega arith)
 
 returns-3 : tie.Need-returns-3
 returns-3 c =
-    set-done _ _ _ _ (sym (c .before .before .before .before .before .before .before .before .before .before .before .before .before .point-refusal .ensures) ∙ c .before .before .before .before .before .before .before .before .before .before .before .before .if1 .left) (c .before .before .before .before .before .before .before .before .ensure-storage .last .0) _ (c .before .before .before .assign-in-word .result) (c .shifted .result) (c .before .before .before .before .before .single .result)
-    (sym (c .before .before .before .before .before .before .before .before .before .before .before .idle .ensures) ∙ c .before .before .before .before .before .before .before .before .before .before .if2 .left)
+    set-done _ _ _ _ (sym (c .before .before .before .before .before .before .before .before .before .before .before .before .before .before .point-refusal .ensures) ∙ c .before .before .before .before .before .before .before .before .before .before .before .before .before .if1 .left) (c .before .before .before .before .before .before .before .before .ensure-storage .last .0) _ (c .before .before .before .assign-in-word .result) (c .shifted .result) (c .before .before .before .before .before .single .result)
+    (sym (c .before .before .before .before .before .before .before .before .before .before .before .before .idle .ensures) ∙ c .before .before .before .before .before .before .before .before .before .before .before .if2 .left)
     (c .before .before .before .before .before .before .before .before .ensure-storage .ensures)
     (c .before .before .before .before .before .single .ensures)
     (c .before .before .before .assign-in-word .ensures)
@@ -39,7 +39,6 @@ set-spec =
     (λ c. search needs)
     ensure-storage-requires
     (λ c κs. search needs)
-    (λ c. search needs)
     assign-in-word-requires
     (λ c κs. search needs)
     (λ c. search needs)
