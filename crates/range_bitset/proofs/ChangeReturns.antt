@@ -1,5 +1,5 @@
 -- The returns of `assign`, `set` and `clear`: what each promises, from what the code has there. Assumes nothing.
-use Rattle.range_bitset.proofs.Kit.{_≡_, refl, ap, sym, _∙_, subst, Bool, true, false, not, _&&_, _||_, cond, true≢false, false≢true, or-false, List, ℕ, suc, _+_, _*_, _-_, _/_, _%_, _^_, _≤_, _<_, arith, eqb, ltb, drop, length, eqb-true, eqb-false, eq-eqb, ne-eqb, lt-ltb, le-ltb}
+use Rattle.range_bitset.proofs.Kit.{_≡_, refl, ap, ap₂, not-true, sym, _∙_, subst, Bool, true, false, not, _&&_, _||_, cond, true≢false, false≢true, or-false, List, ℕ, suc, _+_, _*_, _-_, _/_, _%_, _^_, _≤_, _<_, arith, eqb, ltb, drop, length, eqb-true, eqb-false, eq-eqb, ne-eqb, lt-ltb, le-ltb}
 use Rattle.positions.proofs.Replies.{accepted-refused}
 use Rattle.positions.specs.Positions.{Positions, none, within, assigned, count, changedCount, differ, lacking, one}
 use Rattle.positions.proofs.Ranges.{Place, inside, before, behind, place}
@@ -79,26 +79,20 @@ module _ {f : Positions → Reply} {g : Positions → Positions} {begins clears 
 
 -- ---- clearing a set that has nothing, and any other change
 
-idle-clear : (h : RangeBitset) (st : List ℕ) (a e : ℕ) (v : Bool) → e ≤ capacityOf h → (not v && eqb (h .len) 0) ≡ true → (s : Positions) → Represents h st s
-    → (changedCount s a e v ≡ 0) × (v ≡ false)
+idle-clear : (h : RangeBitset) (st : List ℕ) (a e : ℕ) (v : Bool) → e ≤ capacityOf h → v ≡ false → h .len ≡ 0 → (s : Positions) → Represents h st s
+    → changedCount s a e v ≡ 0
 unfolding changedCount
-idle-clear h st a e true l i s t = absurd (false≢true i)
-idle-clear h st a e false l i s t =
-    let z : count s 0 (capacityOf h) ≡ 0 = sym (t .counted) ∙ eqb-true _ _ i in
-    (count-none (lacking s false) a e (λ j p q. ap (λ (x : Bool). differ x false) (count-zero s 0 (capacityOf h) z j (omega arith) (omega arith))), refl)
-
-not-idle : (v : Bool) (n : ℕ) → (not v && eqb n 0) ≡ false → not v ≡ true → n ≡ 0 → ⊥
-not-idle v n i c z = true≢false (rw (c, eq-eqb n 0 z) at i)
+idle-clear h st a e v l f z s t =
+    count-none (lacking s v) a e (λ j p q. ap₂ differ (count-zero s 0 (capacityOf h) (sym (t .counted) ∙ z) j (omega arith) (omega arith)) f)
 
 -- a call that is not idle leaves the flag set
-begun-after : (h : RangeBitset) (st : List ℕ) (v : Bool) → (not v && eqb (h .len) 0) ≡ false → (s : Positions) → Represents h st s → true ≡ (h .allocated || v)
-begun-after h st v i s t = go (h .allocated) refl v i
+begun-after : (h : RangeBitset) (st : List ℕ) (v : Bool) → (v ≡ false → h .len ≡ 0 → ⊥) → (s : Positions) → Represents h st s → true ≡ (h .allocated || v)
+begun-after h st v busy s t = go (h .allocated) refl v refl
   where
-    go : (x : Bool) → h .allocated ≡ x → (y : Bool) → (not y && eqb (h .len) 0) ≡ false → true ≡ (x || y)
+    go : (x : Bool) → h .allocated ≡ x → (y : Bool) → v ≡ y → true ≡ (x || y)
     go true e y f = refl
     go false e true f = refl
-    go false e false f =
-        absurd (eqb-false _ _ f (t .counted ∙ count-none s 0 (capacityOf h) (λ j p q. t .fresh e j q)))
+    go false e false f = absurd (busy f (t .counted ∙ count-none s 0 (capacityOf h) (λ j p q. t .fresh e j q)))
 
 -- the population moved by what changed
 len-after : (h : RangeBitset) (st : List ℕ) (a e : ℕ) (v : Bool) (n : ℕ) → Room (h .words) st → e ≤ capacityOf h → (s : Positions) → Represents h st s → n ≡ changedCount s a e v
@@ -128,14 +122,14 @@ module _ (h : RangeBitset) (st st₁ st₂ : List ℕ) (a e : ℕ) (v : Bool) (n
 
   pub change-done : {f : Positions → Reply} {begins : Bool} (k m : ℕ) (r : Reply) → k ≡ 0 → Accepted r
       → m ≡ cond v ((h .len + n) % 2 ^ 32) ((h .len + (2 ^ 32 - n)) % 2 ^ 32)
-      → (not v && eqb (h .len) 0) ≡ false → begins ≡ v
+      → (v ≡ false → h .len ≡ 0 → ⊥) → begins ≡ v
       → ((s : Positions) → n ≡ changedCount s a e v → r ≡ f s)
       → Changes k h st f (λ s. assigned s a e v) begins (not v) r (headOf (h .words) m true) st₂
-  change-done k m r z q em i eb ans =
-      new-set k h st r m st₂ z q (not-idle v (h .len) i) (w .storage-kept ∙ b .storage-kept)
+  change-done k m r z q em busy eb ans =
+      new-set k h st r m st₂ z q (λ x. busy (not-true v x)) (w .storage-kept ∙ b .storage-kept)
       (λ s t.
       let c = w .changed s (begun-holds s t) in
-      (ans s c, em ∙ len-after h st a e v n room l s t c, begun-after h st v i s t ∙ ap (λ (x : Bool). h .allocated || x) (sym eb), w .holds s (begun-holds s t)))
+      (ans s c, em ∙ len-after h st a e v n room l s t c, begun-after h st v busy s t ∙ ap (λ (x : Bool). h .allocated || x) (sym eb), w .holds s (begun-holds s t)))
 
 -- ---- `assign`
 
@@ -149,20 +143,20 @@ module _ (h : RangeBitset) (st : List ℕ) (a e : ℕ) (v : Bool) (z : rangeRefu
       flag true x = or-false x
       flag false x = or-false x
 
-  pub assign-idle : (not v && eqb (h .len) 0) ≡ true → AssignEnsures h st a e v (record { answer = counted.Count 0; head = h }) st
-  assign-idle i =
+  pub assign-idle : v ≡ false → h .len ≡ 0 → AssignEnsures h st a e v (record { answer = counted.Count 0; head = h }) st
+  assign-idle f n =
       same-set _ h st _ z tt
       (λ s t.
-      let q = idle-clear h st a e v (range-accepted h st e z .1) i s t in
-      (ap number (sym (q .0)), assigned-none s a e v (q .0), sym (ap (λ (x : Bool). h .allocated || (x && ltb a e)) (q .1) ∙ or-false (h .allocated))))
+      let q = idle-clear h st a e v (range-accepted h st e z .1) f n s t in
+      (ap number (sym q), assigned-none s a e v q, sym (ap (λ (x : Bool). h .allocated || (x && ltb a e)) f ∙ or-false (h .allocated))))
 
-  pub assign-done : (st₁ st₂ : List ℕ) (n m : ℕ) → a < e → (not v && eqb (h .len) 0) ≡ false
+  pub assign-done : (st₁ st₂ : List ℕ) (n m : ℕ) → a < e → (v ≡ false → h .len ≡ 0 → ⊥)
       → Begins (h .words) (h .allocated) st st₁ → Assigns (h .words) a e v st₁ st₂ n
       → m ≡ cond v ((h .len + n) % 2 ^ 32) ((h .len + (2 ^ 32 - n)) % 2 ^ 32)
       → AssignEnsures h st a e v (record { answer = counted.Count n; head = record { words = h .words; len = m; allocated = true } }) st₂
-  assign-done st₁ st₂ n m l i b w em =
+  assign-done st₁ st₂ n m l busy b w em =
       let q = range-accepted h st e z in
-      change-done h st st₁ st₂ a e v n (q .0) (q .1) b w _ m _ z tt em i
+      change-done h st st₁ st₂ a e v n (q .0) (q .1) b w _ m _ z tt em busy
       (ap (λ (x : Bool). v && x) (lt-ltb a e l) ∙ and-true v) (λ s c. ap number c)
     where
       and-true : (x : Bool) → (x && true) ≡ x
@@ -181,13 +175,13 @@ single-spans j i = bit-pow j i ∙ go (place j (j + 1) i)
     go (behind p e) = ne-eqb i j (λ z. omega arith) ∙ sym e
 
 module _ (h : RangeBitset) (st : List ℕ) (i : ℕ) (v : Bool) (z : pointRefusal h (length st) i ≡ 0) where
-  pub set-idle : (not v && eqb (h .len) 0) ≡ true → SetEnsures h st i v (record { answer = tested.Is false; head = h }) st
-  set-idle e =
+  pub set-idle : v ≡ false → h .len ≡ 0 → SetEnsures h st i v (record { answer = tested.Is false; head = h }) st
+  set-idle f n =
       let u = point-accepted h st i z .1 in
       same-set _ h st _ z tt
       (λ s t.
-      let q = idle-clear h st i (suc i) v u e s t in
-      (ap number (sym (q .0)), assigned-none s i (suc i) v (q .0), sym (ap (λ (x : Bool). h .allocated || x) (q .1) ∙ or-false (h .allocated))))
+      let q = idle-clear h st i (suc i) v u f n s t in
+      (ap number (sym q), assigned-none s i (suc i) v q, sym (ap (λ (x : Bool). h .allocated || x) f ∙ or-false (h .allocated))))
 
   -- whether a position changed is how many did
   whether : (n : ℕ) → n ≤ 1 → one (not (eqb n 0)) ≡ n
@@ -197,12 +191,12 @@ module _ (h : RangeBitset) (st : List ℕ) (i : ℕ) (v : Bool) (z : pointRefusa
       by true e = sym (eqb-true n 0 e)
       by false e = let q : n ≡ 0 → ⊥ = eqb-false n 0 e in omega arith
 
-  pub set-done : (st₁ st₂ : List ℕ) (n m w : ℕ) → (not v && eqb (h .len) 0) ≡ false
+  pub set-done : (st₁ st₂ : List ℕ) (n m w : ℕ) → (v ≡ false → h .len ≡ 0 → ⊥)
       → Begins (h .words) (h .allocated) st st₁ → w ≡ 2 ^ (i % 64)
       → ((a b : ℕ) → Spans w a b → a ≤ b → b ≤ 64 → Assigns (h .words) (64 * (i / 64) + a) (64 * (i / 64) + b) v st₁ st₂ n)
       → m ≡ cond v ((h .len + n) % 2 ^ 32) ((h .len + (2 ^ 32 - n)) % 2 ^ 32)
       → SetEnsures h st i v (record { answer = tested.Is (not (eqb n 0)); head = record { words = h .words; len = m; allocated = true } }) st₂
-  set-done st₁ st₂ n m w e b ew as′ em =
+  set-done st₁ st₂ n m w busy b ew as′ em =
       let q = point-accepted h st i z in
       let j : 64 * (i / 64) + i % 64 ≡ i = omega arith in
       let j′ : 64 * (i / 64) + (i % 64 + 1) ≡ suc i = omega arith in
@@ -211,7 +205,7 @@ module _ (h : RangeBitset) (st : List ℕ) (i : ℕ) (v : Bool) (z : pointRefusa
       subst (λ (x : ℕ). Assigns (h .words) x (suc i) v st₁ st₂ n) j
       (subst (λ (x : ℕ). Assigns (h .words) (64 * (i / 64) + i % 64) x v st₁ st₂ n) j′
       (as′ (i % 64) (i % 64 + 1) one-bit (omega arith) (omega arith))) in
-      change-done h st st₁ st₂ i (suc i) v n (q .0) (q .1) b a _ m _ z tt em e refl
+      change-done h st st₁ st₂ i (suc i) v n (q .0) (q .1) b a _ m _ z tt em busy refl
       (λ s c. ap number (whether n (omega (arith, c, changed-le s i (suc i) v)) ∙ c))
 
 -- ---- `clear`

@@ -1,7 +1,6 @@
 // Setting or clearing a range, or one position. Assumes nothing.
 ghost use mathlib.Core.Path.{_≡_};
-ghost use mathlib.Core.Bool.{not, _&&_, cond};
-ghost use lib.Dec.{eqb};
+ghost use mathlib.Core.Bool.{cond};
 ghost use Prim.Native.Nat.{_+_, _*_, _-_, _%_, _^_, _<_, _≤_};
 ghost use Rattle.range_bitset.specs.Entries.{AssignEnsures, SetEnsures};
 ghost use Rattle.range_bitset.specs.Inner.{Room, Assigns};
@@ -28,13 +27,6 @@ impl RangeBitset {
         }
     }
 
-    // Clearing a set that has nothing.
-    pub(crate) fn idle(value: bool, len: u32) -> bool
-        ensures { λ r. ⌜ r ≡ (not value && eqb len 0) ⌝ }
-    {
-        !value && len == 0
-    }
-
     // Set or clear every position in `start..end`; answers how many changed.
     pub fn assign(self, storage: &mut [u64], start: usize, end: usize, value: bool) -> Assigned
         ensures { λ r. ⌜ AssignEnsures self (now (storage .entry)) start end value r (now (storage .exit)) ⌝ }
@@ -46,13 +38,7 @@ impl RangeBitset {
                 head: self,
             };
         }
-        if start >= end {
-            return Assigned {
-                answer: Counted::Count(0),
-                head: self,
-            };
-        }
-        if Self::idle(value, self.len) {
+        if start >= end || (!value && self.len == 0) {
             return Assigned {
                 answer: Counted::Count(0),
                 head: self,
@@ -147,7 +133,7 @@ impl RangeBitset {
                 head: self,
             };
         }
-        if Self::idle(value, self.len) {
+        if !value && self.len == 0 {
             return Updated {
                 answer: Tested::Is(false),
                 head: self,

@@ -21,10 +21,7 @@ impl RangeBitset {
         if refused != 0 {
             return Counted::Refused(refused);
         }
-        if start >= end {
-            return Counted::Count(0);
-        }
-        if self.len == 0 {
+        if start >= end || self.len == 0 {
             return Counted::Count(0);
         }
         Counted::Count(Self::count_range(storage, self.words as usize, start, end))

@@ -119,10 +119,7 @@ impl RangeBitset {
         if refused != 0 {
             return Found::Refused(refused);
         }
-        if from >= end {
-            return Found::Nothing;
-        }
-        if self.len == 0 {
+        if from >= end || self.len == 0 {
             return Found::Nothing;
         }
         let words = self.words as usize;

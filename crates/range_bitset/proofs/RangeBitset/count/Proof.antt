@@ -1,5 +1,5 @@
 -- `count` meets its contract: one law of QueryReturns for each return. Assumes nothing.
-use Rattle.range_bitset.proofs.Kit.{needs, refl, sym, _∙_, arith}
+use Rattle.range_bitset.proofs.Kit.{needs, eqb-true, eqb-false, ⊎-elim, refl, sym, _∙_, arith}
 use Rattle.range_bitset.proofs.AcceptedHeads.{range-accepted}
 use Rattle.range_bitset.proofs.QueryReturns.{declined, count-nothing, count-empty-set, count-begun}
 use Rattle.range_bitset.proofs.RangeBitset.count.Statement.{statement}
@@ -11,11 +11,8 @@ returns c =
 
 returns-2 : tie.Need-returns-2
 returns-2 c =
-    count-nothing _ _ _ _ (sym (c .before .before .range-refusal .ensures) ∙ c .before .if1 .left) (c .if2 .taken)
-
-returns-3 : tie.Need-returns-3
-returns-3 c =
-    count-empty-set _ _ _ _ (sym (c .before .before .before .before .range-refusal .ensures) ∙ c .before .before .before .if1 .left) (c .if3 .taken)
+    let ok = sym (c .before .before .range-refusal .ensures) ∙ c .before .if1 .left in
+    ⊎-elim (λ w. count-nothing _ _ _ _ ok (w .taken)) (λ w. count-empty-set _ _ _ _ ok (eqb-true _ _ (w .2 .taken))) (c .if2 .came)
 
 count-range-requires : tie.Need-count-range-requires
 count-range-requires c κs =
@@ -23,9 +20,9 @@ count-range-requires c κs =
     let q = range-accepted (a .self) (a .storage .now) (a .end) (sym (c .before .before .before .before .before .range-refusal .ensures) ∙ c .before .before .before .before .if1 .left) in
     (q .0, omega (arith, c .before .before .before .if2 .left), q .1)
 
-returns-4 : tie.Need-returns-4
-returns-4 c =
-    count-begun _ _ _ _ (sym (c .before .before .before .before .before .before .range-refusal .ensures) ∙ c .before .before .before .before .before .if1 .left) _ (c .before .before .if3 .left) (c .count-range .ensures)
+returns-3 : tie.Need-returns-3
+returns-3 c =
+    count-begun _ _ _ _ (sym (c .before .before .before .before .before .before .range-refusal .ensures) ∙ c .before .before .before .before .before .if1 .left) _ (eqb-false _ _ (c .before .before .if3 .left)) (c .count-range .ensures)
 
 pub count-spec : {M : Type 1} → statement M
 count-spec =
@@ -34,7 +31,6 @@ count-spec =
     (λ c κs. search needs)
     returns
     returns-2
-    returns-3
     (λ c. search needs)
     count-range-requires
-    returns-4)
+    returns-3)
