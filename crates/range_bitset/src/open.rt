@@ -23,13 +23,11 @@ impl RangeBitset {
         let population_slot = Self::population_slot(words, block);
         let top_nonzero = Self::top_nonzero_slot(words);
         let top_full = Self::top_full_slot(words);
-        let mixed = storage[top_nonzero] | bit;
-        let not_full = storage[top_full] & !bit;
         storage[nonzero] = masks;
         storage[full] = masks;
         storage[population_slot] = population;
-        storage[top_nonzero] = mixed;
-        storage[top_full] = not_full;
+        storage[top_nonzero] |= bit;
+        storage[top_full] &= !bit;
     }
 
     // Make `block`'s masks authoritative before changing them.
