@@ -4,9 +4,6 @@ use Rattle.range_bitset.proofs.Kit.{not-true, not-false, length-set, ar
 use Rattle.range_bitset.proofs.RangeBitset.ensure_storage.Statement.{statement}
 use Rattle.range_bitset.proofs.RangeBitset.ensure_storage.Tie as tie
 
-slice-write-storage-2 : tie.Need-slice-write-storage-2
-slice-write-storage-2 c = simp length-set (omega arith)
-
 returns : tie.Need-returns
 returns c =
     begins-fresh _ _ _ _ (c .before .before .before .before .pre) (not-true _ (c .before .before .if1 .taken)) (rw (c .top-full-slot .ensures, c .before .top-nonzero-slot .ensures))
@@ -23,7 +20,7 @@ ensure-storage-spec =
     (λ c. search needs)
     (λ c. search needs)
     (λ c. search needs)
-    slice-write-storage-2
+    (λ c. simp length-set (omega arith))
     (λ c. search needs)
     returns
     returns-2)

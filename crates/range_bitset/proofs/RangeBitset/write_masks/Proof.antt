@@ -3,9 +3,6 @@ use Rattle.range_bitset.proofs.Kit.{length-set, arith, needs}
 use Rattle.range_bitset.proofs.RangeBitset.write_masks.Statement.{statement}
 use Rattle.range_bitset.proofs.RangeBitset.write_masks.Tie as tie
 
-slice-write-storage-2 : tie.Need-slice-write-storage-2
-slice-write-storage-2 c = simp length-set (omega arith)
-
 returns : tie.Need-returns
 returns c = rw (c .combined2 .ensures, c .before .before .combined .ensures, c .before .before .before .before .full-slot .ensures, c .before .before .before .before .before .nonzero-slot .ensures)
 
@@ -24,6 +21,6 @@ write-masks-spec =
     (λ c. search needs)
     (λ c. search needs)
     (λ c. search needs)
-    slice-write-storage-2
+    (λ c. simp length-set (omega arith))
     (λ c. search needs)
     returns)

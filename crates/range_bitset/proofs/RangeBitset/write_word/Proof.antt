@@ -3,12 +3,6 @@ use Rattle.range_bitset.proofs.Kit.{length-set, arith, needs}
 use Rattle.range_bitset.proofs.RangeBitset.write_word.Statement.{statement}
 use Rattle.range_bitset.proofs.RangeBitset.write_word.Tie as tie
 
-slice-write-storage-2 : tie.Need-slice-write-storage-2
-slice-write-storage-2 c = simp length-set (omega arith)
-
-slice-write-storage-3 : tie.Need-slice-write-storage-3
-slice-write-storage-3 c = simp length-set (omega arith)
-
 returns : tie.Need-returns
 returns c =
     rw (c .combined2 .ensures, c .before .before .combined .ensures, c .before .before .before .before .full-slot .ensures, c .before .before .before .before .before .nonzero-slot .ensures, c .before .before .before .before .before .before .single .ensures)
@@ -29,8 +23,8 @@ write-word-spec =
     (λ c. search needs)
     (λ c. search needs)
     (λ c. search needs)
-    slice-write-storage-2
+    (λ c. simp length-set (omega arith))
     (λ c. search needs)
-    slice-write-storage-3
+    (λ c. simp length-set (omega arith))
     (λ c. search needs)
     returns)
