@@ -47,20 +47,14 @@ impl RangeBitset {
     fn allowed(words: usize) -> bool
         ensures { λ r. ⌜ r ≡ allowed words ⌝ }
     {
-        if u64::count_ones(words as u64) != 1 {
-            return false;
-        }
-        words <= 4096
+        u64::count_ones(words as u64) == 1 && words <= 4096
     }
 
     fn good_head(head: RangeBitset) -> bool
         ensures { λ r. ⌜ r ≡ goodHead head ⌝ }
     {
         let words = head.words as usize;
-        if !Self::allowed(words) {
-            return false;
-        }
-        head.len as usize <= 64 * words
+        Self::allowed(words) && head.len as usize <= 64 * words
     }
 
     // 0, or the number by which a call on head and storage is refused.

@@ -6,11 +6,11 @@ use Rattle.range_bitset.proofs.RangeBitset.allowed.Tie as tie
 
 returns : tie.Need-returns
 unfolding allowed
-returns c = rw (ne-eqb _ _ (c .if1 .taken))
+returns c = rw (eq-eqb _ _ (c .if1 .taken))
 
 returns-2 : tie.Need-returns-2
 unfolding allowed
-returns-2 c = rw (eq-eqb _ _ (c .if1 .left))
+returns-2 c = rw (ne-eqb _ _ (c .if1 .left))
 
 pub allowed-spec : {M : Type 1} → statement M
 allowed-spec = tie.close (tie.spec returns returns-2)
