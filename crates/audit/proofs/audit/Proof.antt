@@ -27,8 +27,6 @@ audit-spec =
     (λ c κs. search needs)
     returns
     returns-2
-    (λ c κs. search needs)
-    (λ c. search needs)
-    (λ c. search needs)
+    (λ c κs. search needs) (λ c. search needs) (λ c. search needs)
     returns-3
     returns-4)

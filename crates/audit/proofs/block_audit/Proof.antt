@@ -34,11 +34,7 @@ pub block-audit-spec : {M : Type 1} → statement M
 block-audit-spec =
     tie.close
     (tie.spec
-    (λ c. search needs)
-    (λ c κs. search needs)
-    (λ c. search needs)
-    (λ c. search needs)
-    (λ c. search needs)
+    (λ c. search needs) (λ c κs. search needs) (λ c. search needs) (λ c. search needs) (λ c. search needs)
     mixed-block-sound-requires
     (λ c. search needs)
     returns

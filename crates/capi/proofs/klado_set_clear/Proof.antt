@@ -12,9 +12,5 @@ pub klado-set-clear-spec : {M : Type 1} → statement M
 klado-set-clear-spec =
     tie.close
     (tie.spec
-    (λ c κs. search needs)
-    (λ c κs. search needs)
-    (λ c κs. search needs)
-    (λ c κs. search needs)
-    (λ c. search needs)
+    (λ c κs. search needs) (λ c κs. search needs) (λ c κs. search needs) (λ c κs. search needs) (λ c. search needs)
     returns)

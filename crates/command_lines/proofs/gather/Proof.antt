@@ -36,12 +36,10 @@ gather-spec =
     Inv-loop
     μ-loop
     loop-holds
-    (λ c. omega arith)
-    (λ c. omega arith)
+    (λ c. omega arith) (λ c. omega arith)
     same-length
     returns
-    (λ c κs. search needs)
-    (λ c. omega arith)
+    (λ c κs. search needs) (λ c. omega arith)
     loop-again
     same-length-2
     returns-2)

@@ -63,8 +63,7 @@ number-spec =
     Inv-loop
     μ-loop
     loop-holds
-    (λ c. omega arith)
-    (λ c κs. search needs)
+    (λ c. omega arith) (λ c κs. search needs)
     returns
     returns-2
     returns-3
@@ -73,8 +72,7 @@ number-spec =
     mul-value
     (λ c. omega arith)
     add-value
-    (λ c. omega arith)
-    (λ c. omega arith)
+    (λ c. omega arith) (λ c. omega arith)
     loop-again
     (λ c κs. search needs)
     returns-5)

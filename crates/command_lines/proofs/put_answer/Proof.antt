@@ -72,16 +72,13 @@ put-answer-spec =
     returns
     (λ c. search needs)
     put-number-line-requires
-    (λ c. search needs)
-    (λ c. search needs)
+    (λ c. search needs) (λ c. search needs)
     put-requires
-    (λ c. search needs)
-    (λ c. search needs)
+    (λ c. search needs) (λ c. search needs)
     put-requires-2
     (λ c. search needs)
     put-number-line-requires-2
-    (λ c. search needs)
-    (λ c. search needs)
+    (λ c. search needs) (λ c. search needs)
     put-requires-3
     (λ c. search needs)
     returns-2

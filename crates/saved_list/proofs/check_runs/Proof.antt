@@ -64,19 +64,12 @@ check-runs-spec =
     Inv-loop
     μ-loop
     returns
-    (λ c κs. search needs)
-    (λ c. search needs)
-    (λ c. search needs)
+    (λ c κs. search needs) (λ c. search needs) (λ c. search needs)
     loop-holds
-    (λ c. search needs)
-    (λ c κs. search needs)
-    (λ c. search needs)
-    (λ c κs. search needs)
+    (λ c. search needs) (λ c κs. search needs) (λ c. search needs) (λ c κs. search needs)
     keeps-rule-requires
     returns-2
     add-low
-    (λ c. search needs)
-    (λ c. search needs)
-    (λ c. omega arith)
+    (λ c. search needs) (λ c. search needs) (λ c. omega arith)
     loop-again
     returns-3)

@@ -15,9 +15,7 @@ pub print-spec : {M : Type 1} → statement M
 print-spec =
     tie.close
     (tie.spec
-    (λ c. search needs)
-    (λ c κs. search needs)
-    (λ c. search needs)
+    (λ c. search needs) (λ c κs. search needs) (λ c. search needs)
     slice-aggregate-write-all
     (λ c κs. search needs)
     returns)

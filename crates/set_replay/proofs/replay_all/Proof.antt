@@ -32,9 +32,7 @@ replay-all-spec =
     μ-loop
     (λ c κs. search needs)
     loop-holds
-    (λ c κs. search needs)
-    (λ c. search needs)
-    (λ c. search needs)
+    (λ c κs. search needs) (λ c. search needs) (λ c. search needs)
     loop-again
     same-length
     (λ c. search needs)

@@ -65,9 +65,7 @@ assign-runs-spec =
     (λ c. search needs)
     shared-slice-read-end
     cast-end
-    (λ c κs. search needs)
-    (λ c κs. search needs)
-    (λ c κs. search needs)
+    (λ c κs. search needs) (λ c κs. search needs) (λ c κs. search needs)
     add-slot
     add-i
     (λ c. omega arith)

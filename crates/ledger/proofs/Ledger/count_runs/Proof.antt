@@ -33,8 +33,6 @@ count-runs-spec =
     loop-holds
     (λ c κs. search needs)
     returns
-    (λ c κs. search needs)
-    (λ c. search needs)
-    (λ c. omega arith)
+    (λ c κs. search needs) (λ c. search needs) (λ c. omega arith)
     loop-again
     returns-2)

@@ -48,13 +48,10 @@ pub take-back-spec : {M : Type 1} → statement M
 take-back-spec =
     tie.close
     (tie.spec
-    (λ c κs. search needs)
-    (λ c κs. search needs)
+    (λ c κs. search needs) (λ c κs. search needs)
     returns
     last-call-requires
-    (λ c. search needs)
-    (λ c. search needs)
-    (λ c κs. search needs)
+    (λ c. search needs) (λ c. search needs) (λ c κs. search needs)
     returns-2
     mul-first
     add-first

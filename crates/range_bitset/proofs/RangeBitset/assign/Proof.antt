@@ -44,6 +44,5 @@ assign-spec =
     (λ c. search needs)
     ensure-storage-requires
     assign-range-requires
-    (λ c κs. search needs)
-    (λ c. search needs)
+    (λ c κs. search needs) (λ c. search needs)
     returns-3)

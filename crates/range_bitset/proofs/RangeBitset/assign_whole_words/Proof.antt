@@ -125,21 +125,15 @@ assign-whole-words-spec =
     tie.close
     (tie.spec
     returns
-    (λ c. search needs)
-    (λ c. search needs)
-    (λ c. search needs)
-    (λ c κs. search needs)
+    (λ c. search needs) (λ c. search needs) (λ c. search needs) (λ c κs. search needs)
     assign-words-requires
     (λ c. search needs)
     returns-2
     (λ c κs. search needs)
     assign-words-requires-2
-    (λ c. search needs)
-    (λ c. search needs)
-    (λ c κs. search needs)
+    (λ c. search needs) (λ c. search needs) (λ c κs. search needs)
     assign-words-requires-3
-    (λ c κs. search needs)
-    (λ c. search needs)
+    (λ c κs. search needs) (λ c. search needs)
     span-requires-3
     assign-blocks-requires
     (λ c κs. search needs)

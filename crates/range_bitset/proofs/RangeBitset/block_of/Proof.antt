@@ -39,12 +39,9 @@ block-of-spec =
     returns
     (λ c. search needs)
     block-state-requires
-    (λ c. search needs)
-    (λ c. search needs)
+    (λ c. search needs) (λ c. search needs)
     words-per-block-requires
-    (λ c. search needs)
-    (λ c. search needs)
-    (λ c. search needs)
+    (λ c. search needs) (λ c. search needs) (λ c. search needs)
     mixed-block-requires
     returns-2
     returns-3

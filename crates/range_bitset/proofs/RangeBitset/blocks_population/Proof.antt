@@ -24,12 +24,7 @@ pub blocks-population-spec : {M : Type 1} → statement M
 blocks-population-spec =
     tie.close
     (tie.spec
-    (λ c κs. search needs)
-    (λ c. search needs)
-    (λ c. search needs)
-    (λ c κs. search needs)
-    (λ c. search needs)
-    (λ c. search needs)
+    (λ c κs. search needs) (λ c. search needs) (λ c. search needs) (λ c κs. search needs) (λ c. search needs) (λ c. search needs)
     mul-kept-populations
     kept-populations-requires
     returns)

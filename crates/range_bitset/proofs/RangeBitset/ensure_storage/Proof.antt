@@ -15,11 +15,7 @@ pub ensure-storage-spec : {M : Type 1} → statement M
 ensure-storage-spec =
     tie.close
     (tie.spec
-    (λ c κs. search needs)
-    (λ c κs. search needs)
-    (λ c. search needs)
-    (λ c. search needs)
-    (λ c. search needs)
+    (λ c κs. search needs) (λ c κs. search needs) (λ c. search needs) (λ c. search needs) (λ c. search needs)
     (λ c. simp length-set (omega arith))
     (λ c. search needs)
     returns

@@ -68,8 +68,7 @@ kept-populations-spec =
     population-slot-requires
     mul-low-u32
     shared-slice-read-low-u32
-    (λ c κs. search needs)
-    (λ c κs. search needs)
+    (λ c κs. search needs) (λ c κs. search needs)
     sub-mixed
     loop-less
     loop-again

@@ -56,16 +56,12 @@ pub next-after-spec : {M : Type 1} → statement M
 next-after-spec =
     tie.close
     (tie.spec
-    (λ c κs. search needs)
-    (λ c κs. search needs)
-    (λ c. search needs)
+    (λ c κs. search needs) (λ c κs. search needs) (λ c. search needs)
     cast-next-word
     add-next-word
     first-in-word-requires
     returns
-    (λ c κs. search needs)
-    (λ c κs. search needs)
-    (λ c. search needs)
+    (λ c κs. search needs) (λ c κs. search needs) (λ c. search needs)
     returns-2
     cast-next-block
     candidate-words-requires-2

@@ -39,8 +39,6 @@ refusal-spec =
     returns
     (λ c. search needs)
     blocks-requires
-    (λ c. search needs)
-    (λ c. search needs)
-    (λ c. search needs)
+    (λ c. search needs) (λ c. search needs) (λ c. search needs)
     returns-2
     returns-3)

@@ -39,6 +39,5 @@ set-spec =
     ensure-storage-requires
     (λ c κs. search needs)
     assign-in-word-requires
-    (λ c κs. search needs)
-    (λ c. search needs)
+    (λ c κs. search needs) (λ c. search needs)
     returns-3)

@@ -86,17 +86,12 @@ whole-words-population-spec =
     tie.close
     (tie.spec
     returns
-    (λ c. search needs)
-    (λ c. search needs)
-    (λ c. search needs)
-    (λ c κs. search needs)
+    (λ c. search needs) (λ c. search needs) (λ c. search needs) (λ c κs. search needs)
     words-population-requires
     returns-2
     (λ c κs. search needs)
     words-population-requires-2
-    (λ c. search needs)
-    (λ c. search needs)
-    (λ c κs. search needs)
+    (λ c. search needs) (λ c. search needs) (λ c κs. search needs)
     words-population-requires-3
     add-population
     (λ c. search needs)
