@@ -2,22 +2,22 @@
 --     opens-head, closes-head     the `&mut` of a head is opened, and closed at another head
 --     lends-head      the local is lent for a lifetime ν that is made for the call
 --     head-back       ν is ended, and the local is back at the head that the callee left
+--     calls-core, leaves      a call that asks only what its parameters own; every local is freed as the function returns
 -- The facts of a value's parts assume nothing. The rest takes `Given`.
-use Rattle.saved_list.proofs.OneCallee.{refl, ap, subst, _≡_, ℕ, List, [], _∷_, length, URA, fullShare, named, Val, vptr, ent, sep, GName, Lft, Share, Fml, fsep, flft, flent, fobs, fauth, fres, fobor, fat, Heap, Atoms, sem}
-use Rattle.saved_list.proofs.OneCallee.{Given, Item, Goal, Soaks, Seq, Step, ‵, _⊛_, some, later, _$_, _∵_, !, qed, move, drop, use1, use3, split, join, pick, fsplit, fsplit3, fpick, fpack, fjoin, fjoin3, feqI, frame, await, done}
-use Rattle.saved_list.proofs.OneCallee.{Body, RattleType, owns, Is, shows, mem, cellAt, partAt, u32, u64, RefT, MutRef, sliceVal, MutSlice, ShrSlice, shr-slice-copy, only, opens, closes, owned, peeks}
-use Rattle.ledger_lent.proofs.Kit.{Holds, hasTy, WT, Gv, step, lft-new, lft-end, lends-ref, ref-back, partOf, spelt}
+use Rattle.ledger_lent.proofs.Kit.{refl, ap, subst, _≡_, ℕ, List, [], _∷_, length, URA, fullShare, named, Val, vptr, ent, sep, GName, Lft, Share, Fml, fsep, flft, flent, fobs, fauth, fres, fobor, fat, Heap, Atoms, sem, Holds, hasTy, WT, Gv, step, lft-new, lft-end, lends-ref, ref-back, partOf, spelt, flat, typesAt, Clauses, Ended, Fn, Calls, Loops, WpFn, Ledger, Counted, Called, Name, Place, Operand, seq, call, Code, Env, Ty, frees, fdies, forget, free0, free1, _-_, zero, suc, Post, mean, fact, use2, runs, lands, Opds, raw, Contract, Triple, calls-at, tells, FmC}
+use Rattle.ledger_lent.proofs.Kit.{Given, Item, Goal, Soaks, Seq, Step, ‵, _⊛_, some, later, _$_, _∵_, !, qed, move, drop, use1, use3, split, join, pick, fsplit, fsplit3, fpick, fpack, fjoin, fjoin3, feqI, frame, await, done, Body, RattleType, owns, Is, shows, mem, cellAt, partAt, u32, u64, RefT, MutRef, sliceVal, MutSlice, ShrSlice, shr-slice-copy, only, opens, closes, owned, peeks, onEntry, walkOf, Stays}
 use denote.Struct.Laws as LL
 use denote.Enum.Laws as EL
-use Rattle.ledger.specs.declared.Ledger.{Ledger}
-use Rattle.range_bitset.specs.declared.Counted.{Counted}
-use Rattle.ledger.specs.declared.Called.{Called}
 use Rattle.ledger.proofs.Ledger as T
 use Rattle.ledger.proofs.Ledger.Laws as T′
 use Rattle.range_bitset.proofs.Counted as S
 use Rattle.range_bitset.proofs.Counted.Laws as S′
 use Rattle.ledger.proofs.Called as O
 use Rattle.ledger.proofs.Called.Laws as O′
+
+-- what a walk shows at y, which is what the function's triple binds outside: from what the parameters own to the exit
+abbrev pub Walk : {M : Type 1} (𝓤 : URA M) (H : Heap 𝓤) (A : Atoms 𝓤) (T : Ended) (hs : Stays (T .signature .params) (T .kept)) (c : Clauses 𝓤 T) → Fn → Calls 𝓤 H → Loops 𝓤 H → walkOf 𝓤 H A T hs c .Ghost → Type 1
+Walk 𝓤 H A T hs c fn C Λ y = ent 𝓤 (onEntry 𝓤 H A (T .signature) (y .0 .0) (y .0 .1) (y .0 .3) (y .0 .4)) (WpFn 𝓤 H C Λ fn (flat (typesAt (T .signature .params) (y .0 .0)) (y .0 .4)) (walkOf 𝓤 H A T hs c .post y))
 
 -- rows and machine values
 abbrev pub headRow : RattleType
@@ -165,3 +165,31 @@ module _ {M : Type 1} {𝓤 : URA M} {H : Heap 𝓤} {A : Atoms 𝓤} {K : Type 
       fsplit t $ move t (2 ∷ []) $ split t $ lft-end t soaks $ move t (0 ∷ 4 ∷ 2 ∷ []) $ use3 W (later (‵ (partAt T.the-row fullShare g l 0))) (ref-back 𝓤 H A W T.the-row (ν ∷ []) δ g l 0) $ await t soaks $
       use1 W (‵ (Cell l 0 g) ⊛ ‵ (T.the-row .own g (headVals g))) (take-out 𝓤 H A W l 0 g) $ split t $
       move t (1 ∷ []) $ peeks t T.the-row (Is T.the-row) (shows 𝓤 H A T.the-row) g (headVals g) (λ is. drop t $ move t (2 ∷ 0 ∷ []) $ k is)
+
+-- ---- the locals as the function returns: each a cell with what frees it, _0 first
+abbrev pub Held : List (Ty × ℕ) → Type 0
+Held [] = Unit {0}
+Held (e ∷ E) = Val × Held E
+
+abbrev pub held : {M : Type 1} {𝓤 : URA M} (E : List (Ty × ℕ)) → Held E → List (Item 𝓤) → List (Item 𝓤)
+held [] vs Δ = Δ
+held (e ∷ E) vs Δ = ‵ (fat fullShare (e .0) (e .1) 0 (vs .0)) ∷ ‵ (fdies (e .0) (e .1)) ∷ held E (vs .1) Δ
+
+-- where n of them stand in the context, the first at k and each next one before it
+abbrev pub pairs : ℕ → ℕ → List ℕ
+pairs zero k = []
+pairs (suc n) k = k ∷ suc k ∷ pairs n (k - 2)
+
+module _ {M : Type 1} {𝓤 : URA M} {H : Heap 𝓤} {A : Atoms 𝓤} {K : Type 0} {W : Given 𝓤 H A} where
+  pub leaves : K → {G : Goal 𝓤 H} (E : List (Ty × ℕ)) (vs : Held E) (Δ : List (Item 𝓤)) → Step K W Δ G (held E vs Δ) (frees E G)
+  leaves t [] vs Δ = free0 t
+  leaves t (e ∷ E) vs Δ = step (λ s. forget t 0 refl $ free1 t $ leaves t E (vs .1) Δ $ s)
+
+  -- ---- a call that asks nothing but what its parameters own: once it has returned, the result, the last values of its parameters, and what it says of both
+  pub calls-core : K → {Γ : List (Item 𝓤)} {E : Env 𝓤 H} {C : Calls 𝓤 H} {Λ : Loops 𝓤 H} {q : Post 𝓤 H} {f : Name} {xs : List Operand} {d : Place} {rest : Code} → FmC 𝓤 H (W .laws) C → (c : Contract 𝓤) → Triple 𝓤 (C f) c
+      → (y : c .Ghost) (toks : Item 𝓤) (row : RattleType) {Z : Type 0} (last : Z → Fml) (Said : row .Denot → Z → Type 0) {R : Fml}
+      → ent 𝓤 (mean 𝓤 H A (toks ⊛ ‵ R)) (c .pre y) → ((u : Val) → ent 𝓤 (c .post y u) (mean 𝓤 H A (later (some (λ (x : row .Denot). (toks ⊛ ‵ (row .own x (u ∷ []))) ⊛ some (λ (z : Z). ‵ (last z) ⊛ raw (fact 𝓤 (Said x z))))))))
+      → Opds K W (raw (c .pre y) ∷ Γ) E xs (c .args y) → ((u : Val) (x : row .Denot) (z : Z) → Said x z → Seq K W (‵ (last z) ∷ toks ∷ ‵ (row .own x (u ∷ [])) ∷ Γ) (lands C Λ E d u rest q))
+      → Seq K W (toks ∷ ‵ R ∷ Γ) (runs C Λ E (seq (call f xs d) rest) q)
+  calls-core t fm c met y toks row last Said asked told os k =
+      use2 W (raw (c .pre y)) asked $ calls-at t fm c met y os (λ u. tells t tt toks (λ x. row .own x (u ∷ [])) last Said (told u) (k u))

@@ -4,17 +4,9 @@ use Rattle.ledger_lent.proofs.Forms.{of-value}
 use Rattle.ledger_lent.proofs.assign.Statement.{statement}
 use Rattle.ledger_lent.proofs.assign.Tie as tie
 
--- src/lib.rt:28:9
--- src/lib.rt:30:9
--- src/lib.rt:17:1
--- src/lib.rt:17:1
--- src/lib.rt:17:1
 returns : tie.Need-returns
 returns c = of-value _ _ (c .before .before .before .before .before .before .before .if1 .taken) _ _ _ _ _ (c .before .before .before .before .mark .ensures)
 
--- src/lib.rt:17:1
--- src/lib.rt:17:1
--- src/lib.rt:17:1
 returns-2 : tie.Need-returns-2
 returns-2 c = of-value _ _ (c .before .before .before .before .before .before .before .if1 .left) _ _ _ _ _ (c .before .before .before .before .clear .ensures)
 
