@@ -10,7 +10,7 @@ pub use lib.Dec.{eqb, leb, lit<, ltb}
 pub use lib.ListN.{drop, drop-of-length-le, getD, length, length-append, length-drop, length-set, length-take, set, take}
 pub use lib.Seq.{drop-cons, drop-drop, length-take-le, set-out, sets, sets-eq, take-all, take-append-le, take-at, take-suc-set}
 pub use mathlib.Core.Bool.{Bool, _&&_, cond, false, false≢true, not, true}
-pub use mathlib.Core.List.{List, [], _++_, _∷_, append-assoc, append-nil}
+pub use mathlib.Core.List.{List, [], _++_, _∷_, append-assoc, append-nil, map}
 pub use mathlib.Core.Logic.{⊎-elim}
 pub use mathlib.Core.Path.{_∙_, _≡_, ap, refl, sym}
 pub use native.Mathlib.Nat.{add-zero, lt-of-lt-of-le, pow-le-pow-right, pow-suc, sub-self, zero-add}
