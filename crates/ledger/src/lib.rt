@@ -2,25 +2,26 @@
 // take-back gives just those runs their old value again. The head goes in and comes back by value; storage and journal are
 // lent with each call. Work is bounded by the ends of the range, the blocks and the runs changed, never by the words of the capacity.
 // Assumes nothing of its callers: no entry has a `requires`.
+//
+// This file has the head and the entries; record has what a marking writes into the journal, runs the runs given a value again.
 ghost use mathlib.Core.Path.{_≡_};
 ghost use mathlib.Core.Bool.{true, false};
 ghost use mathlib.Core.List.{List};
-ghost use Prim.Native.Nat.{ℕ, _+_, _*_, _-_, _/_, _%_, _<_, _≤_};
+ghost use Prim.Native.Nat.{ℕ};
 ghost use lib.ListN.{length};
-ghost use Rattle.positions.specs.Positions.{one};
 ghost use Rattle.range_bitset.specs.declared.Counted.the-variants as counted;
 ghost use Rattle.ledger.specs.Machine.{Range, Back, Wipe, point};
 ghost use Rattle.ledger.specs.Memory.{refusalFor};
 ghost use Rattle.ledger.specs.Entries.{CalledEnsures, newOf, OpenEnsures};
-ghost use Rattle.ledger.specs.Inner.{Finds, RunsFit, CountsRuns, WritesCall, WritesRuns, readRuns, AssignsRuns, OpensRuns, lastOf, foundIn, countIn};
 use range_bitset::Counted;
-use range_bitset::Found;
 use range_bitset::Made;
 use range_bitset::RangeBitset;
-use saved_list::FoundRun;
 use saved_list::Header;
 use saved_list::LengthCheck;
 use saved_list::RunCheck;
+
+mod record;
+mod runs;
 
 // The longest journal.
 const JOURNAL_MOST: u32 = 16384;
@@ -282,212 +283,5 @@ impl Ledger {
             return Self::declined(head, 4);
         }
         Self::assign(head, storage, journal, index, index + 1, value)
-    }
-
-    // First position in `from..end` equal to `value`, or `end`.
-    fn find(set: RangeBitset, storage: &[u64], from: usize, end: usize, value: bool) -> usize
-        ensures { λ r. ⌜ Finds set (now (storage .entry)) from end value r ⌝ }
-    {
-        if value {
-            Self::place_or(set.next_one(storage, from, end), end)
-        } else {
-            Self::place_or(set.next_zero(storage, from, end), end)
-        }
-    }
-
-    // Whether a call on `start..end` changes at most `most` runs. Two runs have a position between them, so a short range
-    // need not be searched.
-    fn runs_fit(
-        set: RangeBitset,
-        storage: &[u64],
-        start: usize,
-        end: usize,
-        value: bool,
-        most: u32,
-    ) -> bool
-        requires { ⌜ most ≤ 8192 ⌝ }
-        ensures { λ r. ⌜ RunsFit set (now (storage .entry)) start end value most r ⌝ }
-    {
-        if end <= start {
-            return true;
-        }
-        if end - start <= 2 * most as usize {
-            return true;
-        }
-        Self::count_runs(set, storage, start, end, value, most + 1) <= most
-    }
-
-    // How many runs of `start..end` a call would change, counted up to `most`.
-    fn count_runs(
-        set: RangeBitset,
-        storage: &[u64],
-        start: usize,
-        end: usize,
-        value: bool,
-        most: u32,
-    ) -> u32
-        ensures { λ r. ⌜ CountsRuns set (now (storage .entry)) start end value most r ⌝ }
-    {
-        let mut runs = 0u32;
-        let mut from = start;
-        while runs < most {
-            let at = Self::find(set, storage, from, end, !value);
-            if at >= end {
-                return runs;
-            }
-            from = Self::find(set, storage, at, end, value);
-            runs += 1;
-        }
-        runs
-    }
-
-    // Write the runs of `start..end` that a call changes, at most `most`, and its closing number, from `used` on. Answers how
-    // many numbers are then in use.
-    fn write_call(
-        set: RangeBitset,
-        storage: &[u64],
-        journal: &mut [u32],
-        used: u32,
-        start: usize,
-        end: usize,
-        value: bool,
-        most: u32,
-    ) -> u32
-        requires { ⌜ (used + (2 * most + 1) ≤ length (now journal)) × (used + (2 * most + 1) ≤ 16384) ⌝ }
-        ensures { λ r. ⌜ WritesCall set (now (storage .entry)) start end value used most r (now (journal .entry)) (now (journal .exit)) ⌝ }
-    {
-        let runs = Self::write_runs(set, storage, journal, used, start, end, value, most);
-        let last = used + 2 * runs;
-        journal[last as usize] = Self::packed(runs, value);
-        last + 1
-    }
-
-    // Write the runs of `start..end` that a call changes, at most `most`, from `used` on. Answers how many they are.
-    fn write_runs(
-        set: RangeBitset,
-        storage: &[u64],
-        journal: &mut [u32],
-        used: u32,
-        start: usize,
-        end: usize,
-        value: bool,
-        most: u32,
-    ) -> u32
-        requires { ⌜ (used + 2 * most ≤ length (now journal)) × (used + 2 * most ≤ 16384) ⌝ }
-        ensures { λ r. ⌜ WritesRuns set (now (storage .entry)) start end value used most r (now (journal .entry)) (now (journal .exit)) ⌝ }
-    {
-        let mut slot = used as usize;
-        let mut runs = 0u32;
-        let mut from = start;
-        while runs < most {
-            let at = Self::find(set, storage, from, end, !value);
-            if at >= end {
-                return runs;
-            }
-            from = Self::find(set, storage, at, end, value);
-            journal[slot] = Self::low_u32(at);
-            journal[slot + 1] = Self::low_u32(from);
-            slot += 2;
-            runs += 1;
-        }
-        runs
-    }
-
-    // The call that the last of `used` journal numbers closes. Any journal is safe: no more runs than it can hold.
-    fn last_call(journal: &[u32], used: u32) -> Last
-        requires { ⌜ used ≤ length (now journal) ⌝ }
-        ensures { λ r. ⌜ r ≡ lastOf (now (journal .entry)) used ⌝ }
-    {
-        if used == 0 {
-            return Last::NoCall;
-        }
-        let last = journal[(used - 1) as usize];
-        let most = (used - 1) / 2;
-        let runs = last / 2;
-        if runs <= most {
-            Last::Standing(runs, last % 2 == 1)
-        } else {
-            Last::Standing(most, last % 2 == 1)
-        }
-    }
-
-    // Give `runs` runs of the journal, from `first` on, one value.
-    fn assign_runs(
-        set: RangeBitset,
-        storage: &mut [u64],
-        journal: &[u32],
-        first: u32,
-        runs: u32,
-        value: bool,
-    ) -> Reassigned
-        requires { ⌜ (first + 2 * runs ≤ length (now journal)) × (first + 2 * runs ≤ 16384) ⌝ }
-        ensures { λ r. ⌜ AssignsRuns set (now (storage .entry)) (readRuns (now (journal .entry)) first runs) value (r .changed) (r .head) (now (storage .exit)) ⌝ }
-    {
-        let mut head = set;
-        let mut changed = 0u32;
-        let mut slot = first as usize;
-        let mut i = 0u32;
-        while i < runs {
-            let start = journal[slot] as usize;
-            let end = journal[slot + 1] as usize;
-            let done = head.assign(storage, start, end, value);
-            let answer = done.answer;
-            changed = std::num::wrapping_add_u32(changed, Self::count_of(answer));
-            head = done.head;
-            slot += 2;
-            i += 1;
-        }
-        Reassigned { changed, head }
-    }
-
-    // Set the first `runs` runs of a saved list.
-    fn assign_file(set: RangeBitset, storage: &mut [u64], file: &[u8], runs: u32) -> RangeBitset
-        ensures { λ r. ⌜ OpensRuns set (now (storage .entry)) (now (file .entry)) runs r (now (storage .exit)) ⌝ }
-    {
-        let mut head = set;
-        let mut i = 0u32;
-        while i < runs {
-            let FoundRun::At(start, end) = saved_list::run_at(file, i as usize) else {
-                return head;
-            };
-            let done = head.assign(storage, start as usize, end as usize, true);
-            head = done.head;
-            i += 1;
-        }
-        head
-    }
-
-    fn place_or(found: Found, end: usize) -> usize
-        ensures { λ r. ⌜ r ≡ foundIn found end ⌝ }
-    {
-        match found {
-            Found::At(i) => i,
-            Found::Nothing => end,
-            Found::Refused(_) => end,
-        }
-    }
-
-    fn count_of(answer: Counted) -> u32
-        ensures { λ r. ⌜ r ≡ countIn answer ⌝ }
-    {
-        match answer {
-            Counted::Count(n) => n,
-            Counted::Refused(_) => 0,
-        }
-    }
-
-    // A position in 32 bits.
-    fn low_u32(x: usize) -> u32
-        ensures { λ r. ⌜ r ≡ x % 4294967296 ⌝ }
-    {
-        (x % 0x1_0000_0000) as u32
-    }
-
-    // A call's closing number.
-    fn packed(runs: u32, value: bool) -> u32
-        requires { ⌜ runs ≤ 8192 ⌝ }
-        ensures { λ r. ⌜ r ≡ 2 * runs + one value ⌝ }
-    {
-        if value { 2 * runs + 1 } else { 2 * runs }
     }
 }

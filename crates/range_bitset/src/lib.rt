@@ -1,5 +1,5 @@
-// Fixed-capacity bitset whose range assignment, range count and next-set / next-clear searches do bounded work,
-// independent of its capacity. A port of `RangeBitset` (NOTICE), in its order and under its names.
+// Fixed-capacity bitset whose range assignment, range count and next-set / next-clear searches do bounded work: the range's
+// ends and at most 64 blocks, never the words of the capacity. A port of `RangeBitset` (NOTICE), in its order and under its names.
 //
 // Positions live in data words of 64 bits. Every 64 data words form a block with two masks -- the words that hold any set
 // bit, and the words that are entirely set -- and every block is likewise summarised in one top-level pair of masks. A
