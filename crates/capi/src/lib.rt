@@ -3,13 +3,11 @@
 // range_bitset, or the crate audit, and hands its answer over in those numbers, and nothing else: specs/Told.antt. The ledger's
 // exports are the crate capi_ledger, apart: in one archive with them the searches would be compiled for two callers, and slower.
 // Assumes what the header says that the caller owes, and nothing of heads, numbers and arguments: no export has a `requires`.
-use range_bitset::Assigned;
 use range_bitset::Counted;
 use range_bitset::Found;
 use range_bitset::Made;
 use range_bitset::RangeBitset;
 use range_bitset::Tested;
-use range_bitset::Updated;
 ghost use mathlib.Core.Path.{_≡_};
 ghost use mathlib.Core.Bool.{true, false};
 ghost use Rattle.range_bitset.specs.Entries.{newOf};

@@ -2,7 +2,6 @@
 // back by value; a lent slice is a pointer and a count; an answer is a struct of numbers. Each export calls the entry of its name
 // in ledger and hands its answer over in those numbers, and nothing else: specs/LedgerTold.antt has the definitions.
 // Assumes what the header says that the caller owes, and nothing of heads, numbers and arguments: no export has a `requires`.
-use capi::KladoAnswer;
 use capi::KladoSet;
 use capi::head_of;
 use capi::of_counted;
@@ -10,8 +9,6 @@ use capi::set_of;
 use ledger::Called;
 use ledger::Ledger;
 use ledger::Opened;
-use range_bitset::Counted;
-use range_bitset::RangeBitset;
 ghost use mathlib.Core.Path.{_≡_};
 ghost use mathlib.Core.Bool.{true, false};
 ghost use lib.ListN.{length};

@@ -5,7 +5,6 @@ use Rattle.positions.proofs.Bools.{and-left, and-right}
 use Rattle.positions.proofs.Counts.{count-le, count-none}
 use Rattle.range_bitset.specs.Layout.{allowed, needed}
 use Rattle.range_bitset.specs.Represents.{Represents, capacityOf}
-use Rattle.positions.specs.Replies.{Reply, Numbers, Refusal, refused, Accepted}
 use Rattle.range_bitset.specs.Answers.{allowedCapacity, goodHead, storageRefusal, rangeRefusal, pointRefusal, firstOf}
 use Rattle.range_bitset.specs.Inner.{Room}
 use Rattle.range_bitset.specs.declared.RangeBitset.{RangeBitset}

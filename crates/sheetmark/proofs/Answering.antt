@@ -7,7 +7,7 @@ use Rattle.command_lines.specs.Answers.{printed}
 use Rattle.command_lines.specs.Input.{linesFrom, upTo, ends, Gathers, Buffered}
 use Rattle.command_lines.proofs.Filling.{sets-take}
 use Rattle.command_lines.proofs.Buffers.{holds-none, gathers-holds, held-means, lines-ended, lines-open, up-to-open}
-use Rattle.sheetmark.specs.Answering.{State, AnswersLine, Serves, none, line, texts, Part, End, PartAnswered}
+use Rattle.sheetmark.specs.Answering.{State, AnswersLine, Serves, none, line, texts, End, PartAnswered}
 use Rattle.sheetmark.specs.Inner.{LineAnswered}
 
 -- ---- one line more
