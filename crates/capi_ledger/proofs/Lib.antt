@@ -2,3 +2,4 @@
 mod Kit
 pub mod LedgerTelling
 pub mod LedgerHeader
+pub mod ListHeader

@@ -1,16 +1,19 @@
 -- C's numbers for the ledger's heads and answers, and the promise of each export: its answer is those numbers for an answer
--- that the entry of ledger promises. Assumes nothing.
+-- that the entry of ledger, or of list_writer, promises. Assumes nothing.
 use mathlib.Core.Bool.{false}
 use mathlib.Core.List.{List}
 use Prim.Native.Nat.{ℕ}
 use Rattle.ledger.specs.Machine.{Call, Wipe}
 use Rattle.ledger.specs.Entries.{CalledEnsures, OpenEnsures}
+use Rattle.range_bitset.specs.declared.Counted.{Counted}
+use Rattle.list_writer.specs.Entry.{WriteEnsures}
 use Rattle.ledger.specs.declared.Ledger.{Ledger}
 use Rattle.ledger.specs.declared.Called.{Called}
 use Rattle.ledger.specs.declared.Opened.{Opened}
 use Rattle.ledger.specs.declared.Opened.the-variants as opened
 use Rattle.capi_ledger.specs.declared.KladoLedger.{KladoLedger}
 use Rattle.capi_ledger.specs.declared.KladoLedgerAnswer.{KladoLedgerAnswer}
+use Rattle.capi.specs.declared.KladoSet.{KladoSet}
 use Rattle.capi.specs.declared.KladoAnswer.{KladoAnswer}
 use Rattle.capi_ledger.specs.declared.KladoOpened.{KladoOpened}
 use Rattle.capi.specs.Told.{Told, setOf, headOf, toldCounted}
@@ -57,3 +60,7 @@ CallTold k h st j c st′ j′ = Told Called KladoLedgerAnswer (CalledEnsures k 
 -- wipe is lent no journal: its promise is for any
 abbrev pub WipeTold : KladoLedger → List ℕ → KladoLedgerAnswer → List ℕ → Type 0
 WipeTold h st c st′ = Told Called KladoLedgerAnswer (λ r. (j : List ℕ) → CalledEnsures Wipe (ledgerOf h) st j st′ j r) toldCalled c
+
+-- writing a saved list
+abbrev pub WriteTold : KladoSet → List ℕ → List ℕ → KladoAnswer → List ℕ → Type 0
+WriteTold h st file c file′ = Told Counted KladoAnswer (λ r. WriteEnsures (setOf h) st file r file′) toldCounted c

@@ -1,7 +1,9 @@
-// The ledger's entries for C and C++: include/kladomyne.h has the same structs and calls, in C's words. A head goes in and comes
-// back by value; a lent slice is a pointer and a count; an answer is a struct of numbers. Each export calls the entry of its name
-// in ledger and hands its answer over in those numbers, and nothing else: specs/LedgerTold.antt has the definitions.
+// The entries of the ledger, and of the writer of saved lists, for C and C++: include/kladomyne.h has the same structs and calls, in C's
+// words. A head goes in and comes back by value; a lent slice is a pointer and a count; an answer is a struct of numbers. Each export
+// calls the entry of its name in ledger, or the crate list_writer, and hands its answer over in those numbers, and nothing else:
+// specs/LedgerTold.antt has the definitions.
 // Assumes what the header says that the caller owes, and nothing of heads, numbers and arguments: no export has a `requires`.
+use capi::KladoAnswer;
 use capi::KladoSet;
 use capi::head_of;
 use capi::of_counted;
@@ -14,7 +16,7 @@ ghost use mathlib.Core.Bool.{true, false};
 ghost use lib.ListN.{length};
 ghost use Rattle.ledger.specs.Machine.{Range, Back, point};
 ghost use Rattle.ledger.specs.Entries.{newOf as newLedgerOf};
-ghost use Rattle.capi_ledger.specs.LedgerTold.{ledgerOf, ledgerHead, unopened, toldOpened, toldCalled, CallTold, WipeTold, OpenTold};
+ghost use Rattle.capi_ledger.specs.LedgerTold.{ledgerOf, ledgerHead, unopened, toldOpened, toldCalled, CallTold, WipeTold, OpenTold, WriteTold};
 
 // The head of a ledger.
 #[repr(C)]
@@ -198,4 +200,11 @@ pub extern "C" fn klado_ledger_wipe(head: KladoLedger, storage: &mut [u64]) -> K
     ensures { λ r. ⌜ WipeTold head (now (storage .entry)) r (now (storage .exit)) ⌝ }
 {
     of_called(ledger_of(head).wipe(storage))
+}
+
+#[no_mangle]
+pub extern "C" fn klado_list_write(head: KladoSet, storage: &[u64], file: &mut [u8]) -> KladoAnswer
+    ensures { λ r. ⌜ WriteTold head (now (storage .entry)) (now (file .entry)) r (now (file .exit)) ⌝ }
+{
+    of_counted(list_writer::write(set_of(head), storage, file))
 }

@@ -8,7 +8,7 @@ pub use lib.Seq.{getD-append-add, getD-at, getD-set-other, getD-take, length-tak
 pub use mathlib.Core.Bool.{Bool, Bool·not-not, _&&_, _||_, cond, false, not, or-false, true, true≢false}
 pub use mathlib.Core.List.{List, [], _++_, _∷_, append-assoc, append-nil}
 pub use mathlib.Core.Logic.{_⊎_, inl, inr}
-pub use mathlib.Core.Path.{_∙_, _≡_, ap, refl, subst, sym}
+pub use mathlib.Core.Path.{_∙_, _≡_, ap, ap₂, refl, subst, sym}
 pub use native.Mathlib.Nat.{zero-add}
 pub use native.Mathlib.Numerals.{add-one}
 pub use native.Mathlib.Omega.{arith}

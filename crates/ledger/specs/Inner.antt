@@ -5,48 +5,24 @@ use mathlib.Core.Logic.{_⊎_}
 use mathlib.Core.Bool.{Bool, true, false, _&&_, _||_, cond}
 use mathlib.Core.List.{List, [], _∷_, _++_}
 use Prim.Native.Nat.{ℕ, zero, suc, _+_, _*_, _-_, _/_, _%_, _≤_, _<_, min}
-use lib.Dec.{eqb, ltb, leb}
+use lib.Dec.{eqb, ltb}
 use lib.ListN.{length, getD, take}
-use Rattle.positions.specs.Positions.{Positions, assigned, first, changedCount}
-use Rattle.positions.specs.Runs.{Run, run, placeOr, changedRuns, assignedRuns}
+use Rattle.positions.specs.Positions.{Positions, assigned, changedCount}
+use Rattle.positions.specs.Runs.{Run, run, changedRuns, assignedRuns}
 use Rattle.range_bitset.specs.Layout.{SamePast}
 use Rattle.range_bitset.specs.Represents.{Represents, capacityOf}
 use Rattle.range_bitset.specs.Answers.{rangeRefusal, storageRefusal}
 use Rattle.range_bitset.specs.declared.RangeBitset.{RangeBitset}
 use Rattle.range_bitset.specs.declared.Counted.{Counted}
 use Rattle.range_bitset.specs.declared.Counted.the-variants as counted
-use Rattle.range_bitset.specs.declared.Found.{Found}
 use Rattle.range_bitset.specs.declared.Found.the-variants as found
 use Rattle.saved_list.specs.Format.{runsAfter, heldCount}
 use Rattle.ledger.specs.Machine.{needOf}
 use Rattle.ledger.specs.declared.Last.{Last}
 use Rattle.ledger.specs.declared.Last.the-variants as last
-use Rattle.ledger.specs.Journal.{pairs, written}
+use Rattle.ledger.specs.Journal.{written}
 
--- for every set that the memory represents, within capacity: the first position of a..e of value v, or e
-abbrev pub Finds : RangeBitset → List ℕ → ℕ → ℕ → Bool → ℕ → Type 0
-Finds h st a e v r = rangeRefusal h (length st) e ≡ 0 → (s : Positions) → Represents h st s → r ≡ placeOr e (first s v a e)
-
--- how many runs of a..e giving it the value v changes, counted up to `most`
-pub record CountsRuns (h : RangeBitset) (st : List ℕ) (a e : ℕ) (v : Bool) (most r : ℕ) : Type 0 where
-  pub most-runs : r ≤ most
-  pub counted : rangeRefusal h (length st) e ≡ 0 → (s : Positions) → Represents h st s → r ≡ min most (length (changedRuns s a e v))
-
--- whether giving a..e the value v changes at most `most` runs; on any memory yes where a..e has no room for more
-pub record RunsFit (h : RangeBitset) (st : List ℕ) (a e : ℕ) (v : Bool) (most : ℕ) (r : Bool) : Type 0 where
-  pub short : e - a ≤ 2 * most → r ≡ true
-  pub fits : rangeRefusal h (length st) e ≡ 0 → (s : Positions) → Represents h st s → r ≡ leb (length (changedRuns s a e v)) most
-
--- the runs that a call changes, written into the journal from u on where they are at most `most`
-pub record WritesRuns (h : RangeBitset) (st : List ℕ) (a e : ℕ) (v : Bool) (u most runs : ℕ) (j j′ : List ℕ) : Type 0 where
-  pub most-runs : runs ≤ most
-  pub others : (i : ℕ) → (i < u) ⊎ (u + 2 * runs ≤ i) → getD j′ i 0 ≡ getD j i 0
-  pub all-runs : rangeRefusal h (length st) e ≡ 0 → (s : Positions) → Represents h st s → length (changedRuns s a e v) ≤ most
-      → runs ≡ length (changedRuns s a e v)
-  pub written-are : rangeRefusal h (length st) e ≡ 0 → (s : Positions) → Represents h st s → length (changedRuns s a e v) ≤ most
-      → take (u + 2 * runs) j′ ≡ take u j ++ pairs (changedRuns s a e v)
-
--- the same with the call's closing number: u′ numbers are then in use
+-- the runs that a call changes, at most `most`, and its closing number, written into the journal from u on: u′ numbers are then in use
 pub record WritesCall (h : RangeBitset) (st : List ℕ) (a e : ℕ) (v : Bool) (u most u′ : ℕ) (j j′ : List ℕ) : Type 0 where
   pub most-used : u′ ≤ u + (2 * most + 1)
   pub others : (i : ℕ) → (i < u) ⊎ (u′ ≤ i) → getD j′ i 0 ≡ getD j i 0
@@ -103,11 +79,6 @@ pub record OpensRuns (h : RangeBitset) (st file : List ℕ) (n : ℕ) (h′ : Ra
   pub reassigns : n ≤ heldCount file → Reassigns h st (fileRuns file n) true h′ st′
 
 -- ---- small readings of the answers
-
-abbrev pub foundIn : Found → ℕ → ℕ
-foundIn (found.At i) e = i
-foundIn found.Nothing e = e
-foundIn (found.Refused k) e = e
 
 abbrev pub countIn : Counted → ℕ
 countIn (counted.Count n) = n

@@ -4,13 +4,16 @@ use mathlib.Core.List.{List, [], _∷_, _++_}
 use Prim.Native.Nat.{ℕ, _+_, _*_}
 use lib.ListN.{length}
 use Rattle.positions.specs.Positions.{Positions, one}
-use Rattle.positions.specs.Runs.{Run, changedRuns}
+use Rattle.positions.specs.Runs.{Run, changedRuns, encoded}
 use Rattle.ledger.specs.Machine.{Standing, held}
 
--- runs as numbers: start, end, one run after the other
+-- a run as two numbers: start, end
+abbrev pub pair : Run → List ℕ
+pair r = r .start ∷ r .end ∷ []
+
+-- runs as numbers, one run after the other
 abbrev pub pairs : List Run → List ℕ
-pairs [] = []
-pairs (r ∷ rs) = r .start ∷ r .end ∷ pairs rs
+pairs rs = encoded pair rs
 
 -- a call's runs in ascending order, then one number 2 × runs + value, value 1 for marking, 0 for clearing
 abbrev pub entry : List Run → Bool → List ℕ

@@ -239,7 +239,7 @@ impl Ledger {
             return Self::declined(head, 6);
         }
         let most = (limit - used - 1) / 2;
-        if !Self::runs_fit(set, storage, start, end, value, most) {
+        if !set_runs::runs_fit(set, storage, start, end, value, most as usize) {
             return Self::declined(head, 6);
         }
         let recorded = Self::write_call(set, storage, journal, used, start, end, value, most);

@@ -1,5 +1,5 @@
 -- Laws for code that walks a call's changed runs by searches, and that takes a call back run by run. Assumes nothing.
-use Rattle.positions.proofs.Kit.{_≡_, refl, sym, ap, _∙_, subst, Bool, true, false, not, cond, _&&_, Bool·not-not, true≢false, false≢true, List, [], _∷_, _++_, ℕ, suc, _*_, _-_, _≤_, _<_, arith, ltb-true, ltb-false, leb-true, leb-false, ltb, leb, length}
+use Rattle.positions.proofs.Kit.{_≡_, refl, sym, ap, _∙_, fun-ext, subst, Bool, true, false, not, cond, _&&_, Bool·not-not, true≢false, false≢true, List, [], _∷_, _++_, ℕ, suc, _*_, _-_, _≤_, _<_, arith, ltb-true, ltb-false, leb-true, leb-false, ltb, leb, length}
 use Rattle.positions.specs.Positions.{Positions, assigned, within, differ, lacking, Place, At, None, first, changedCount}
 use Rattle.positions.specs.Runs.{Run, run, runs, changedRuns, placeOr, runEnd, assignedRuns, covered, lengths, Ascending}
 use Rattle.positions.proofs.Ranges.{within-in, within-behind}
@@ -57,9 +57,18 @@ changed-next s a e v p h = go (first s (not v) a e) h (first-means s (not v) a e
         last (subst (λ (k : ℕ). IsFirst s (not v) a e k) y m) (first s (not (not v)) p e) (first-means s (not (not v)) p e)
     go f x (miss m) = absurd (let z : _≡_ {A = ℕ} 0 1 = cc in omega arith)
 
+-- the runs that clearing changes are the set's own
+pub own-runs : (s : Positions) (a e : ℕ) → changedRuns s a e false ≡ runs s a e
+unfolding changedRuns
+own-runs s a e = ap (λ (d : Positions). runs d a e) (fun-ext (λ i. itself (s i)))
+  where
+    itself : (b : Bool) → differ b false ≡ b
+    itself true = refl
+    itself false = refl
+
 -- two runs have a position between them, so that n positions have at most (n + 1) / 2 runs
 
-few-runs : (b e : ℕ) (rs : List Run) → Ascending b e rs → b ≤ suc e → 2 * length rs ≤ suc e - b
+pub few-runs : (b e : ℕ) (rs : List Run) → Ascending b e rs → b ≤ suc e → 2 * length rs ≤ suc e - b
 few-runs b e [] p h = omega arith
 few-runs b e (r ∷ rs) p h = omega (arith, few-runs (suc (r .end)) e rs (p .3) (omega arith))
 

@@ -1,7 +1,7 @@
 -- Runs: the longest stretches of a set, and those that a call changes. All ranges leave out their end. Assumes nothing.
 use mathlib.Core.Path.{_≡_}
 use mathlib.Core.Bool.{Bool, true, false, not, cond}
-use mathlib.Core.List.{List, [], _∷_}
+use mathlib.Core.List.{List, [], _∷_, _++_}
 use Prim.Native.Nat.{ℕ, zero, suc, _+_, _-_, _≤_, _<_}
 use lib.Dec.{eqb}
 use Rattle.positions.specs.Positions.{Positions, within, assigned, lacking, Place, At, None, first}
@@ -56,6 +56,11 @@ covered (r ∷ rs) i = cond (within (r .start) (r .end) i) true (covered rs i)
 abbrev pub lengths : List Run → ℕ
 lengths [] = 0
 lengths (r ∷ rs) = (r .end - r .start) + lengths rs
+
+-- the runs as numbers, one run after the other: `one r` for each run r
+abbrev pub encoded : (Run → List ℕ) → List Run → List ℕ
+encoded one [] = []
+encoded one (r ∷ rs) = one r ++ encoded one rs
 
 -- each run has its start below its end, at most e, and each start lies above the end before it, the first at or above b
 abbrev pub Ascending : ℕ → ℕ → List Run → Type 0

@@ -3,6 +3,7 @@ mod Kit
 pub mod Bytes
 pub mod Rule
 pub mod Lists
+pub mod WrittenFiles
 pub mod ReaderReturns
 pub mod GoodFiles
 pub mod Steps

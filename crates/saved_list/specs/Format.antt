@@ -1,14 +1,19 @@
 -- 01's saved list (`MSL`) as definitions on a list of bytes: the header's numbers, the runs, which files are good, the
--- positions that a good file holds, and the index of the first run that breaks the run rule.
+-- positions that a good file holds, the bytes that a capacity and its runs make, and the index of the first run that breaks the
+-- run rule.
 -- A byte past the file's end reads 0, so every definition has a value on any bytes. Assumes nothing.
 use mathlib.Core.Path.{_≡_}
 use mathlib.Core.Bool.{Bool, true, false, cond, _&&_}
-use mathlib.Core.List.{List, [], _∷_}
-use Prim.Native.Nat.{ℕ, zero, suc, _+_, _-_, _*_, _/_, _≤_}
+use mathlib.Core.List.{List, [], _∷_, _++_}
+use Prim.Native.Nat.{ℕ, zero, suc, _+_, _-_, _*_, _/_, _%_, _≤_, _<_}
 use lib.Dec.{eqb, leb, ltb}
 use lib.ListN.{length, getD, take}
 use Rattle.positions.specs.Positions.{Positions}
-use Rattle.positions.specs.Runs.{Run, run, covered, Ascending}
+use Rattle.positions.specs.Runs.{Run, run, covered, encoded, Ascending}
+
+-- each number of the list is a byte
+abbrev pub Bytes : List ℕ → Type 0
+Bytes file = (i : ℕ) → getD file i 0 < 256
 
 -- ---- numbers, big-endian
 
@@ -77,6 +82,27 @@ pub record Good (bytes : List ℕ) : Type 0 where
 -- the positions that a good file holds
 unfoldable pub savedPositions : List ℕ → Positions
 savedPositions bytes = covered (savedRuns bytes)
+
+-- ---- the bytes of a capacity and its runs
+
+-- a number's low 16 and 32 bits, big-endian
+abbrev pub bytes16 : ℕ → List ℕ
+bytes16 n = n / 256 % 256 ∷ n % 256 ∷ []
+
+abbrev pub bytes32 : ℕ → List ℕ
+bytes32 n = bytes16 (n / 65536) ++ bytes16 n
+
+-- the letters, version 1, W and n
+abbrev pub headerBytes : ℕ → ℕ → List ℕ
+headerBytes words n = mark ++ (bytes16 1 ++ (bytes16 words ++ bytes32 n))
+
+-- start and end
+abbrev pub runBytes : Run → List ℕ
+runBytes r = bytes32 (r .start) ++ bytes32 (r .end)
+
+-- the file of a capacity and a list of runs
+unfoldable pub fileOf : ℕ → List Run → List ℕ
+fileOf capacity rs = headerBytes (capacity / 64) (length rs) ++ encoded runBytes rs
 
 -- ---- the first bad run
 

@@ -8,15 +8,15 @@ ghost use Rattle.positions.specs.Runs.{run};
 ghost use Rattle.saved_list.specs.Format.{be16 as big16, be32 as big32, mark, begins, ruled};
 ghost use Rattle.saved_list.specs.Answers.{ofHeader, headerReply, ofLengthCheck, lengthReply, ofRunCheck, runsReply, ofFoundRun, runReply, indexAfter};
 
-// The letters that a saved list begins with: compared on opening.
-const MARK: [u8; 3] = *b"MSL";
+// The letters that a saved list begins with: compared on opening, and written by list_writer.
+pub const MARK: [u8; 3] = *b"MSL";
 
-const VERSION: u16 = 1;
+pub const VERSION: u16 = 1;
 
 // Bytes of the header, and of one run.
-const HEADER_SIZE: usize = 11;
+pub const HEADER_SIZE: usize = 11;
 
-const RUN_SIZE: usize = 8;
+pub const RUN_SIZE: usize = 8;
 
 // Two halves of a number, the high one first.
 fn joined8(high: u8, low: u8) -> u16

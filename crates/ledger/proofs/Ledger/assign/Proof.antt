@@ -33,12 +33,6 @@ sub-most-2 c =
     let l = lent-accepted _ _ _ _ (sym (b .before .refusal .ensures) ∙ b .if1 .left) in
     omega arith
 
-runs-fit-requires : tie.Need-runs-fit-requires
-runs-fit-requires c κs =
-    let b = c .before .before .before .before .before in
-    let l = lent-accepted _ _ _ _ (sym (b .before .refusal .ensures) ∙ b .if1 .left) in
-    omega arith
-
 returns-4 : tie.Need-returns-4
 returns-4 c =
     let n = c .before .before in
@@ -77,8 +71,7 @@ assign-spec =
     returns-3
     sub-most
     sub-most-2
-    runs-fit-requires
-    (λ c κs. search needs) (λ c. search needs)
+    (λ c. search needs) (λ c κs. search needs) (λ c κs. search needs) (λ c. search needs)
     returns-4
     write-call-requires
     assign-requires

@@ -1,8 +1,8 @@
 -- `find` meets its contract: what either search of the set promises, read as a place. Assumes nothing.
-use Rattle.ledger.proofs.RecordedRuns.{found-place}
-use borrow.Author.Needs.{needs}
-use Rattle.ledger.proofs.Ledger.find.Statement.{statement}
-use Rattle.ledger.proofs.Ledger.find.Tie as tie
+use Rattle.set_runs.proofs.RunWalks.{found-place}
+use Rattle.set_runs.proofs.Kit.{needs}
+use Rattle.set_runs.proofs.find.Statement.{statement}
+use Rattle.set_runs.proofs.find.Tie as tie
 
 returns : tie.Need-returns
 returns c = rw (c .before .before .if1 .taken, c .place-or .ensures) (found-place _ _ _ _ _ (c .before .next-one .result) (c .before .next-one .ensures))

@@ -1,8 +1,8 @@
 -- `runs_fit` meets its contract: a short range by its length, a long one by the count. Assumes nothing.
-use Rattle.ledger.proofs.RecordedRuns.{fits-short, fits-counted}
-use Rattle.ledger.proofs.Kit.{arith, needs}
-use Rattle.ledger.proofs.Ledger.runs_fit.Statement.{statement}
-use Rattle.ledger.proofs.Ledger.runs_fit.Tie as tie
+use Rattle.set_runs.proofs.RunWalks.{fits-short, fits-counted}
+use Rattle.set_runs.proofs.Kit.{arith, needs}
+use Rattle.set_runs.proofs.runs_fit.Statement.{statement}
+use Rattle.set_runs.proofs.runs_fit.Tie as tie
 
 returns : tie.Need-returns
 returns c = fits-short _ _ _ _ _ _ (omega arith)

@@ -1,9 +1,9 @@
 -- `count_runs` meets its contract. The loop's invariant: the runs counted and those from `from` on are all (`Counting`). The
 -- measure is how many it may still count. Assumes nothing.
-use Rattle.ledger.proofs.RecordedRuns.{Counting, counting-start, counting-next, counting-done, counting-most}
-use Rattle.ledger.proofs.Kit.{arith, _-_, _≤_, needs}
-use Rattle.ledger.proofs.Ledger.count_runs.Statement.{statement}
-use Rattle.ledger.proofs.Ledger.count_runs.Tie as tie
+use Rattle.set_runs.proofs.RunWalks.{Counting, counting-start, counting-next, counting-done, counting-most}
+use Rattle.set_runs.proofs.Kit.{arith, _-_, _≤_, needs}
+use Rattle.set_runs.proofs.count_runs.Statement.{statement}
+use Rattle.set_runs.proofs.count_runs.Tie as tie
 
 abbrev Inv-loop : tie.InvT-loop
 Inv-loop set storage start end value most runs₀ from₀ runs from = (runs ≤ most) × Counting set storage start end value runs from

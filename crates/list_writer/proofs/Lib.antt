@@ -1,0 +1,4 @@
+-- The writer's laws. Assumes nothing.
+mod Kit
+pub mod Stores
+pub mod WriteReturns

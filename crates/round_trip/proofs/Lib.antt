@@ -1,0 +1,3 @@
+-- The two round trips, proved. Assumes nothing.
+mod Kit
+pub mod RoundTrips
