@@ -12,19 +12,23 @@
 //! journal up to U is held to the plain machine of ledger_model.rs, and so are the set's queries and the audit, now and
 //! then and at the end of each list.
 
+mod files;
 mod guarded;
 mod ledger_model;
 mod ledger_port;
+mod lent;
 mod port;
 mod random;
+mod saved_list;
 
+use files::*;
 use guarded::*;
 use ledger_model::*;
 use ledger_port::*;
+use lent::*;
 use port::*;
 use random::Random;
-use std::fmt::Debug;
-use std::ops::Range;
+use saved_list::*;
 
 #[derive(Clone, Copy, Debug, PartialEq)]
 enum Kind {
@@ -62,90 +66,6 @@ struct Case {
     end: usize,
 }
 
-/// A lent slice, with what it held before the call.
-struct Lent<'a, T> {
-    name: &'static str,
-    room: &'a mut Room<T>,
-    round: Round<T>,
-}
-
-impl<'a, T: Copy + PartialEq> Lent<'a, T> {
-    fn new(
-        name: &'static str,
-        room: &'a mut Room<T>,
-        random: &mut Random,
-        len: usize,
-        filling: impl Fn(&mut Random) -> T,
-    ) -> Self {
-        let round = Round::new(room, random, len, filling);
-        Lent { name, room, round }
-    }
-
-    fn first(&self) -> *mut T {
-        unsafe { self.room.first.add(self.round.from) }
-    }
-
-    fn numbers(&mut self) -> &mut [T] {
-        let (from, len) = (self.round.from, self.round.len);
-        &mut self.room.all()[from..from + len]
-    }
-
-    fn put(&mut self, at: usize, number: T) {
-        self.round.put(self.room, at, number);
-    }
-
-    /// Holds the slice and its margins to what they held, but for the `free` numbers.
-    fn hold(&mut self, free: Range<usize>, case: Case) {
-        let none = free.is_empty();
-        if let Some(what) = self.round.check(self.room, free) {
-            let what = if none { "a number was written, and none was free" } else { what };
-            wrong(case, &format!("{}: {what}", self.name));
-        }
-    }
-}
-
-struct Rooms {
-    storage: Room<u64>,
-    journal: Room<u32>,
-    file: Room<u8>,
-}
-
-/// Storage and journal of one round.
-struct Memory<'a> {
-    storage: Lent<'a, u64>,
-    journal: Lent<'a, u32>,
-    file: &'a mut Room<u8>,
-}
-
-impl<'a> Memory<'a> {
-    fn new(rooms: &'a mut Rooms, random: &mut Random, storage_len: usize, journal_len: usize, capacity: usize) -> Self {
-        let storage = Lent::new("storage", &mut rooms.storage, random, storage_len, filling);
-        let journal =
-            Lent::new("journal", &mut rooms.journal, random, journal_len, |random| journal_number(random, capacity));
-        Memory { storage, journal, file: &mut rooms.file }
-    }
-}
-
-/// A position, a closing number of few runs, or anything.
-fn journal_number(random: &mut Random, capacity: usize) -> u32 {
-    match random.below(8) {
-        0 => random.next() as u32,
-        1 => u32::MAX - random.below(2) as u32,
-        2..=4 => random.below(12) as u32,
-        _ => random.below(capacity + 2) as u32,
-    }
-}
-
-fn same<T: PartialEq + Debug>(case: Case, what: &str, got: T, wanted: T) {
-    if got != wanted {
-        wrong(case, &format!("{what} {got:?} and not {wanted:?}"));
-    }
-}
-
-fn ledger(words: usize, len: u32, begun: bool, limit: usize, used: usize) -> Ledger {
-    Ledger { set: Head { words: words as u32, len, allocated: begun as u8 }, journal: limit as u32, used: used as u32 }
-}
-
 /// New, held to its whole promise: it is owed on any memory.
 fn make_new(case: Case, memory: &mut Memory) -> Opened {
     NOW.is(case);
@@ -164,42 +84,7 @@ fn make_new(case: Case, memory: &mut Memory) -> Opened {
 /// Open, likewise.
 fn make_open(case: Case, memory: &mut Memory, random: &mut Random, bytes: &[u8]) -> Opened {
     NOW.is(case);
-    let mut file = Lent::new("file", memory.file, random, bytes.len(), |random| random.next() as u8);
-    for (at, byte) in bytes.iter().enumerate() {
-        file.put(at, *byte);
-    }
-    let (storage, journal, limit) = (&memory.storage, &memory.journal, case.end);
-    let opened = unsafe {
-        klado_ledger_open(
-            file.first(),
-            bytes.len(),
-            limit,
-            storage.first(),
-            case.storage_len,
-            journal.first(),
-            case.journal_len,
-        )
-    };
-    let (refused, run, head) = match opening(bytes, limit, case.storage_len, case.journal_len) {
-        Ok((capacity, runs)) => {
-            let population = runs.iter().map(|run| run.1 - run.0).sum();
-            (0, 0, ledger(capacity / 64, population, !runs.is_empty(), limit, 0))
-        }
-        Err((refused, run)) => (refused, run, ledger(0, 0, false, 0, 0)),
-    };
-    same(case, "open gave", opened, Opened { refused, run, head });
-    memory.storage.hold(0..if refused == 0 { needed(head.set.words as usize) } else { 0 }, case);
-    memory.journal.hold(0..0, case);
-    file.hold(0..0, case);
-    if refused == 0 {
-        is_sound(case, memory, head);
-    }
-    opened
-}
-
-fn is_sound(case: Case, memory: &Memory, head: Ledger) {
-    let audit = unsafe { klado_set_audit(head.set, memory.storage.first(), case.storage_len) };
-    same(case, "the audit gave", (audit.refused, audit.value), (0, 1));
+    open(case, memory, random, bytes, case.end)
 }
 
 /// A call of a ledger, and what holds on any memory but for the refusal's number.
@@ -271,17 +156,6 @@ fn loose_call(case: Case, memory: &mut Memory) -> Ledger {
     answer.head
 }
 
-/// A journal's length J, allowed or not.
-fn any_limit(random: &mut Random, limit: usize) -> usize {
-    match random.below(12) {
-        0 => random.next() as usize >> random.below(64),
-        1 => LONGEST_JOURNAL + random.below(3) - 1,
-        2 => limit + 1,
-        3 => random.below(limit + 1),
-        _ => limit,
-    }
-}
-
 fn any_ledger(random: &mut Random, words: usize, limit: usize) -> Ledger {
     let journal = any_limit(random, limit) as u32;
     let used = match random.below(12) {
@@ -293,80 +167,6 @@ fn any_ledger(random: &mut Random, words: usize, limit: usize) -> Ledger {
         _ => random.below(journal as usize + 1) as u32,
     };
     Ledger { set: any_head(random, words), journal, used }
-}
-
-fn any_reach(random: &mut Random) -> usize {
-    [1, 2, 8, 70, 500, 5000][random.below(6)]
-}
-
-/// Ascending runs below the capacity that do not touch, at most `most`, they and the gaps mostly up to `reach` long.
-fn any_runs(random: &mut Random, capacity: usize, most: usize, reach: usize) -> Vec<(u32, u32)> {
-    let count = random.below(most + 1);
-    let (mut runs, mut end) = (Vec::new(), 0);
-    while runs.len() < count {
-        let start = end + random.below(reach) + !runs.is_empty() as usize;
-        if start >= capacity {
-            break;
-        }
-        end = (start + 1 + random.below(reach)).min(capacity);
-        runs.push((start as u32, end as u32));
-    }
-    runs
-}
-
-/// A saved list with something wrong, mostly.
-fn any_file(random: &mut Random, words: usize) -> Vec<u8> {
-    let capacity = 64 * words as u32;
-    let most = if random.once_in(8) { 300 } else { 12 };
-    let reach = any_reach(random);
-    let mut runs = any_runs(random, capacity as usize, most, reach);
-    let kind = random.below(10);
-    if kind == 0 && !runs.is_empty() {
-        let at = random.below(runs.len());
-        let before = if at == 0 { (0, 0) } else { runs[at - 1] };
-        runs[at] = match random.below(6) {
-            0 => (runs[at].0, runs[at].0),
-            1 => (runs[at].1, runs[at].0),
-            2 => (runs[at].0, capacity + random.below(2) as u32),
-            3 => (before.1, runs[at].1),
-            4 => (before.0, runs[at].1),
-            _ => (random.next() as u32 >> random.below(32), random.next() as u32 >> random.below(32)),
-        };
-    }
-    let mut file = saved(words as u16, &runs);
-    match kind {
-        1 => (0..random.below(40)).map(|_| random.next() as u8).collect(),
-        2 => {
-            for _ in 0..1 + random.below(2) {
-                let at = random.below(file.len());
-                file[at] ^= 1 << random.below(8);
-            }
-            file
-        }
-        3 => {
-            file.truncate(random.below(file.len() + 1));
-            file
-        }
-        4 => {
-            file.extend((0..1 + random.below(17)).map(|_| random.next() as u8));
-            file
-        }
-        5 => {
-            // a run count whose 8 bytes a run would wrap in 32 bits to the right length
-            file[7] |= 0x20 << random.below(3);
-            file
-        }
-        6 => {
-            let words = [0, 3, 8192, 0x8000, 0xffff, random.below(1 << 16)][random.below(6)] as u16;
-            file[5..7].copy_from_slice(&words.to_be_bytes());
-            file
-        }
-        7 => {
-            file[random.below(5)] = random.next() as u8;
-            file
-        }
-        _ => file,
-    }
 }
 
 /// A round on memory that is not sound. Answers how many calls.
@@ -492,7 +292,7 @@ fn look(case: Case, memory: &Memory, head: Ledger, machine: &Machine, random: &m
         let numbers = (wanted.err().unwrap_or(0), at.is_some() as u32, at.unwrap_or(0) as u64);
         same(case, &what, (found.refused, found.found, found.at), numbers);
     }
-    is_sound(case, memory, head);
+    is_sound(case, &memory.storage, head.set);
 }
 
 fn get_is(case: Case, memory: &Memory, head: Ledger, machine: &Machine, at: usize) {
@@ -592,8 +392,7 @@ fn sound_round(rooms: &mut Rooms, random: &mut Random, seed: u64, done: u64) -> 
 }
 
 fn main() {
-    let mut rooms =
-        Rooms { storage: Room::new(MOST), journal: Room::new(LONGEST_JOURNAL + 600), file: Room::new(11 + 4 * 262144) };
+    let mut rooms = Rooms::new();
     run(&NOW, |random, seed, done| {
         let round = if random.once_in(2) { loose_round } else { sound_round };
         round(&mut rooms, random, seed, done)
