@@ -1,5 +1,5 @@
-//! The port's ledger through its C interface (include/kladomyne.h), from the archive that `rt staticlib capi_ledger` makes, and
-//! the audit, which is among the set's calls.
+//! The port's ledger and the writer of saved lists through their C interface (include/kladomyne.h), from the archive that
+//! `rt staticlib capi_ledger` makes, and the audit, which is among the set's calls.
 
 use crate::port::{Answer, Head};
 
@@ -27,6 +27,7 @@ pub struct Opened {
     pub head: Ledger,
 }
 
+#[allow(dead_code)]
 #[link(name = "capi_ledger", kind = "static")]
 unsafe extern "C" {
     pub fn klado_ledger_new(
@@ -88,6 +89,13 @@ unsafe extern "C" {
         journal_len: usize,
     ) -> LedgerAnswer;
     pub fn klado_ledger_wipe(head: Ledger, storage: *mut u64, storage_len: usize) -> LedgerAnswer;
+    pub fn klado_list_write(
+        head: Head,
+        storage: *const u64,
+        storage_len: usize,
+        file: *mut u8,
+        file_len: usize,
+    ) -> Answer;
 }
 
 #[link(name = "capi", kind = "static")]
