@@ -249,7 +249,7 @@ fn any_capacity(random: &mut Random) -> usize {
     match random.below(128) {
         0 => 262144,
         1..=12 => 64 << random.below(13),
-        _ => [64, 128, 256, 4096, 8192][random.below(5)],
+        _ => [64, 128, 256, 4096, 8192, 16384][random.below(6)],
     }
 }
 

@@ -1,5 +1,5 @@
-//! Sets that calls make, each beside a plain array of its positions: sparse and dense ones, empty and full ones, and ones with
-//! as many runs as the capacity can have.
+//! Sets that calls make, each beside a plain array of its positions: sparse and dense ones, empty and full ones, ones of whole
+//! words and blocks, and ones with as many runs as the capacity can have.
 
 use crate::guarded::*;
 use crate::lent::*;
@@ -61,13 +61,21 @@ impl<'a> Made<'a> {
         (border + random.below(3)).saturating_sub(1).min(self.capacity())
     }
 
+    /// Whole blocks, whole words, ends on or beside borders, or a range of up to `reach`.
     fn range(&self, random: &mut Random, reach: usize) -> (usize, usize) {
-        if random.once_in(2) {
-            let (a, b) = (self.border(random), self.border(random));
-            return (a.min(b), a.max(b));
-        }
-        let start = random.below(self.capacity());
-        (start, (start + 1 + random.below(reach)).min(self.capacity()))
+        let capacity = self.capacity();
+        let (a, b) = match random.below(8) {
+            unit @ (0 | 1) => {
+                let unit = [BLOCK, WORD][unit].min(capacity);
+                (random.below(capacity / unit + 1) * unit, random.below(capacity / unit + 1) * unit)
+            }
+            2..=4 => (self.border(random), self.border(random)),
+            _ => {
+                let start = random.below(capacity);
+                (start, (start + 1 + random.below(reach)).min(capacity))
+            }
+        };
+        (a.min(b), a.max(b))
     }
 
     /// Some points or ranges, of which `ones` in 8 are set.
@@ -104,7 +112,8 @@ impl<'a> Made<'a> {
             6 | 7 => {
                 let lengths = [1, 2, 3, 63, 64, 65, 128, 4095, 4096, 4097];
                 let (run, gap) = (lengths[random.below(10)], lengths[random.below(10)]);
-                self.stripes(random.below(gap + 1).min(capacity), run, gap);
+                let from = [0, gap, random.below(gap)][random.below(3)];
+                self.stripes(from, run, gap);
             }
             _ => {
                 let reach = [1, 3, 70, 5000, capacity][random.below(5)];
