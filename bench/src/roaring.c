@@ -28,3 +28,17 @@ uint64_t beside_next_one(const void *set, uint32_t start) {
     roaring_init_iterator(set, &at);
     return roaring_move_uint32_iterator_equalorlarger(&at, start) ? at.current_value : UINT64_MAX;
 }
+
+/* Its portable serialisation, for bench/list: a copy of the set with runs where they are shorter, the length, the bytes, and
+ * the set of such bytes, or null. */
+void *beside_run_optimized(const void *set) {
+    roaring_bitmap_t *copy = roaring_bitmap_copy(set);
+    if (copy) roaring_bitmap_run_optimize(copy);
+    return copy;
+}
+
+size_t beside_saved_len(const void *set) { return roaring_bitmap_portable_size_in_bytes(set); }
+
+size_t beside_save(const void *set, void *file) { return roaring_bitmap_portable_serialize(set, file); }
+
+void *beside_open(const void *file, size_t len) { return roaring_bitmap_portable_deserialize_safe(file, len); }
