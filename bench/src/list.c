@@ -154,7 +154,8 @@ static size_t roaring_run_optimized(void) { return beside_save(run_optimized, fi
 static struct writer {
     size_t (*write)(void);
     size_t bytes, calls; /* what it writes, and how often in a round */
-    double took[ROUNDS_MOST], median, logs; /* ns a call in each round, their median, and over the rows the logs of ns a run */
+    double took[ROUNDS_MOST], median; /* ns a call: of each round, and their median */
+    double logs[2];                   /* of ns a run, added up over the rows: of the medians and of the least times */
 } writers[] = {
     {.write = two_walks},
     {.write = one_walk},
@@ -245,7 +246,9 @@ static void measure(double least, int rounds) {
         struct writer *w = &writers[k];
         qsort(w->took, (size_t)rounds, sizeof *w->took, order);
         w->median = w->took[rounds / 2];
-        if (runs > 0) w->logs += log(w->median / (double)runs);
+        if (runs == 0) continue;
+        w->logs[0] += log(w->median / (double)runs);
+        w->logs[1] += log(w->took[0] / (double)runs);
     }
     if (runs > 0) rows_with_runs++;
 }
@@ -264,6 +267,10 @@ static void print_row(const char *name) {
     }
     printf("\n");
     fflush(stdout);
+}
+
+static void print_means(int of) {
+    for (int k = 0; k < WRITERS; k++) printf(" %.2f", exp(writers[k].logs[of] / (double)rows_with_runs));
 }
 
 enum shape { EMPTY, AFTER_200, AFTER_5000, AFTER_100000, LONG_RUNS, BY_POINTS, ONE_OF_64, TWO_OF_4, EVERY_OTHER, SHAPES };
@@ -319,8 +326,10 @@ int main(int count, char **words) {
     static const size_t capacities[] = {4096, 65536, 262144};
     for (int c = 0; c < 3; c++)
         for (int shape = EMPTY; shape < SHAPES; shape++) row(capacities[c], (enum shape)shape, (double)least * 1e3, (int)rounds);
-    printf("\ngeometric means of ns a run over the %zu rows with runs, by column:", rows_with_runs);
-    for (int k = 0; k < WRITERS; k++) printf(" %.2f", exp(writers[k].logs / (double)rows_with_runs));
-    printf("; every writer's bytes were checked\n");
+    printf("\nns a run, geometric means over the %zu rows with runs, by column: of the medians", rows_with_runs);
+    print_means(0);
+    printf("; of the least times");
+    print_means(1);
+    printf("\nevery writer's bytes were checked\n");
     return 0;
 }
