@@ -6,11 +6,11 @@
 #include <stdio.h>
 #include <string.h>
 
-enum { SHEETS = 256, UNDO = 40, LONGEST = 11 + 4 * SHEETS }; /* 256 sheets have at most 128 runs, of 8 bytes each */
+enum { SHEETS = 256, UNDO = 40 };
 
 static uint64_t sheets[KLADO_SET_STORAGE(SHEETS)]; /* static memory is zeroed */
 static uint32_t undo[UNDO];
-static uint8_t list[LONGEST];
+static uint8_t list[KLADO_LIST_MOST(SHEETS)];
 static const size_t room = KLADO_SET_STORAGE(SHEETS);
 
 static int refused(const char *call, uint32_t number) {
@@ -32,7 +32,7 @@ static int evening(const char *path) {
     did = klado_ledger_mark(did.head, sheets, room, undo, UNDO, 100, 130);
     if (did.refused != 0) return refused("mark", did.refused);
     printf("marked %u\n", did.value);
-    klado_answer saved = klado_list_write(did.head.set, sheets, room, list, LONGEST);
+    klado_answer saved = klado_list_write(did.head.set, sheets, room, list, sizeof list);
     if (saved.refused != 0) return refused("write", saved.refused);
     FILE *file = fopen(path, "wb");
     if (file == NULL) return failed(path);
@@ -45,7 +45,7 @@ static int evening(const char *path) {
 static int morning(const char *path) {
     FILE *file = fopen(path, "rb");
     if (file == NULL) return failed(path);
-    size_t len = fread(list, 1, LONGEST, file);
+    size_t len = fread(list, 1, sizeof list, file);
     fclose(file);
     klado_opened made = klado_ledger_open(list, len, UNDO, sheets, room, undo, UNDO);
     if (made.refused != 0) return refused("open", made.refused); /* 7 where the file was not read to its end */

@@ -1,8 +1,8 @@
 /* Kladomyne's ledger library, for C and C++: the set of sheets, and the ledger, which is a set with an undo journal.
  *
- * Link target/staticlib/libcapi.a for the calls klado_set_ and target/staticlib/libcapi_ledger.a for the calls klado_ledger_,
- * which `rt staticlib capi` and `rt staticlib capi_ledger` make, on x86-64 Linux; neither needs a symbol from outside.
- * examples/desk.c is a short caller. The library allocates nothing, keeps nothing between calls, and reads and writes only what the
+ * Link target/staticlib/libcapi.a for the calls klado_set_ and target/staticlib/libcapi_ledger.a for the calls klado_ledger_ and
+ * klado_list_, which `rt staticlib capi` and `rt staticlib capi_ledger` make, on x86-64 Linux; neither needs a symbol from outside.
+ * examples/desk.c and examples/overnight.c are short callers. The library allocates nothing, keeps nothing between calls, and reads and writes only what the
  * caller lends for the length of a call: calls may run in several threads at once where they share no lent memory, or only
  * such as each of them takes as `const`. Every symbol and type has the prefix `klado_`.
  *
@@ -15,7 +15,8 @@
  * gives just those runs their old value again, the last standing call first. The set in a ledger's head can be asked
  * through the set's calls, with the ledger's storage; a ledger's set is changed by the ledger's calls alone.
  *
- * Heads, storage and journals hold numbers and no addresses: together they may be copied, moved or stored.
+ * Heads, storage and journals hold numbers and no addresses: together they may be copied, moved or stored. A saved list is the
+ * positions alone, in bytes that mean the same on every machine: klado_list_write makes one, klado_ledger_open reads it.
  *
  * What the caller owes. Nothing here can be checked by the library:
  *   - `storage` points to `storage_len` numbers and is aligned to 8 bytes; `journal` points to `journal_len` numbers and is
@@ -28,10 +29,11 @@
  * stays in the numbers that were lent. What the calls promise below of their answer is promised where head and storage
  * are a pair that these calls left behind: the head is the one that the last call gave, and the storage has not
  * been written since, nor, for a ledger, the journal's first U numbers. On any other memory an accepted call's answer, its head
- * and the numbers that it may write may be anything, but that a ledger's W and J stay and its U is at most J; and all that is said
- * of refusals and of the other numbers still holds. (But for 6, where head and storage are not sound: there is no set to count
- * runs by. It is answered where U is J; never where as many runs fit as the range's n positions can have, (n + 1) / 2; between
- * these it may be.) What klado_set_audit, klado_ledger_new and klado_ledger_open promise is promised on any memory.
+ * and the numbers that it may write may be anything, but that a ledger's W and J stay, its U is at most J, and a list's length is at
+ * most the buffer's; and all that is said of refusals and of the other numbers still holds. (But for 6 and 9, where head and storage
+ * are not sound: there is no set to count runs by. 6 is answered where U is J; never where as many runs fit as the range's n positions
+ * can have, (n + 1) / 2; between these it may be. 9 is answered where the buffer is under 11 bytes; never where it has
+ * KLADO_LIST_MOST; between these it may be.) What klado_set_audit, klado_ledger_new and klado_ledger_open promise is promised on any memory.
  *
  * Refusals. Every answer opens with `refused`: 0, or the number of the first of these rules that is broken, in this order:
  *   1  new and open alone: the capacity is not 64 * W for a W that is a power of two from 1 to 4096, or J is above 16,384.
@@ -44,13 +46,14 @@
  *   7  open alone: the file is under 11 bytes, its mark or version is wrong, or its length is not 11 + 8 * (its run count).
  *   8  open alone: a run of the file is empty, ends above the capacity, or does not start above the end of the run before it.
  *      `run` is the index of the first such run, counted from 0.
+ *   9  klado_list_write alone: the buffer is shorter than the list, 11 + 8 * (the set's runs).
  * Open checks 7 (at least 11 bytes, mark, version), then 1, then 7 (11 + 8 * its run count), then 3, then 8.
  * A call that is refused writes nothing. Its other numbers are 0 (but for `run` with 8), and the head in its answer is the head
  * that it was given (for new and open a head of zeros, which every call refuses with 2). So a head can be replaced by the
  * answer's in every case.
  *
- * A call that is accepted writes only the first KLADO_SET_STORAGE numbers of the storage, and journal numbers from the old
- * U up to the new one; and only through pointers that are not to `const`.
+ * A call that is accepted writes only the first KLADO_SET_STORAGE numbers of the storage, journal numbers from the old U up to
+ * the new one, and the buffer's bytes up to the length that klado_list_write answers; and only through pointers that are not to `const`.
  */
 #ifndef KLADOMYNE_H
 #define KLADOMYNE_H
@@ -69,6 +72,10 @@
 
 /* The longest journal. */
 #define KLADO_JOURNAL_MOST ((size_t)16384)
+
+/* How many bytes are enough for the saved list of any set of this capacity: 11, and 8 for each of capacity / 2 runs. 1,048,587 for
+ * the largest set. */
+#define KLADO_LIST_MOST(capacity) (11 + 4 * (size_t)(capacity))
 
 #ifdef __cplusplus
 extern "C" {
@@ -174,7 +181,7 @@ klado_opened klado_ledger_new(size_t capacity, size_t limit, const uint64_t *sto
  *
  * A saved list, all numbers big-endian: the letters MSL, the version 1 (2 bytes), W (2 bytes), how many runs (4 bytes), then the
  * runs, each a start and an end (4 bytes each), start < end <= 64 * W, each start above the end of the run before. The capacity
- * is the file's, 64 * W; KLADO_SET_STORAGE_MOST numbers are enough for any file. The library does not write such files. */
+ * is the file's, 64 * W; KLADO_SET_STORAGE_MOST numbers are enough for any file. klado_list_write writes such files. */
 klado_opened klado_ledger_open(const uint8_t *file, size_t file_len, size_t limit, uint64_t *storage,
                                size_t storage_len, const uint32_t *journal, size_t journal_len);
 
@@ -204,6 +211,15 @@ klado_ledger_answer klado_ledger_take_back(klado_ledger head, uint64_t *storage,
 /* Takes every position out, and answers how many there were. No call stands any longer: U is 0, and nothing can be taken
  * back. `allocated` and J stay as they are; the journal's numbers are left. Refused: 2, 3. */
 klado_ledger_answer klado_ledger_wipe(klado_ledger head, uint64_t *storage, size_t storage_len);
+
+/* Writes the saved list of a set, or of a ledger's set (`head.set`, with the ledger's storage), to the front of `file`, and answers its
+ * length: 11 + 8 * n bytes for the set's n runs, the longest stretches of its positions, in ascending order. The bytes past them are
+ * as they were. klado_ledger_open refuses such a list for J or for short slices alone, and else gives the same capacity and
+ * positions, `allocated` set where there are any; and the set of a list that it accepted is written as that list again. The journal is
+ * not saved: no call that stood can be taken back from the opened ledger. The set and its storage are only read. The work grows with the
+ * runs, which are gone through twice: counted first, so that nothing is written where they do not fit, unless the buffer has
+ * KLADO_LIST_MOST(capacity) bytes. Refused: 2, 3, 9. */
+klado_answer klado_list_write(klado_set head, const uint64_t *storage, size_t storage_len, uint8_t *file, size_t file_len);
 
 #ifdef __cplusplus
 }
