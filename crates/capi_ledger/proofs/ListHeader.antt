@@ -2,7 +2,7 @@
 use Rattle.capi_ledger.proofs.Kit.{_≡_, refl, ap, subst, sym, _≢_, _⊎_, inl, inr, List, ℕ, _+_, _*_, _≤_, arith, length, drop}
 use Rattle.positions.specs.Replies.{Reply, refusal, refused, Accepted}
 use Rattle.positions.proofs.Replies.{accepted-refused}
-use Rattle.range_bitset.specs.Answers.{ofCounted, storageRefusal}
+use Rattle.range_bitset.specs.Answers.{storageRefusal}
 use Rattle.range_bitset.specs.declared.Counted.{Counted}
 use Rattle.range_bitset.specs.declared.Counted.the-variants as counted
 use Rattle.list_writer.specs.Entry.{writeRefusal, WriteEnsures}

@@ -17,7 +17,7 @@ use Rattle.ledger.specs.Machine.{Machine, Range, setOf, used, needOf, st
 use Rattle.ledger.specs.Journal.{journalOf}
 use Rattle.ledger.specs.Memory.{Memory, memory, lentRefusal, callRefusal, Holds}
 use Rattle.ledger.specs.Entries.{CallEnsures, flagAfter, mostNeed}
-use Rattle.set_runs.specs.Walk.{RunsFit}
+use Rattle.set_runs.specs.Walks.{RunsFit}
 use Rattle.ledger.specs.Inner.{WritesCall}
 use Rattle.ledger.specs.declared.Ledger.{Ledger}
 use Rattle.ledger.proofs.Machines.{stayed, went, step-outside, step-full, step-range, reachable-step, set-after-range, needs-added, journal-added}

@@ -5,8 +5,8 @@ pub use borrow.Author.Tests.{eq-eqb, eqb-false, eqb-true, le-leb, le-ltb, leb-fa
 pub use lib.Dec.{eqb, leb, ltb}
 pub use lib.ListN.{getD, length, length-append, length-set, set, take}
 pub use lib.Seq.{getD-append-add, getD-at, getD-set-other, getD-take, length-take-le, take-at, take-suc-set, take-take}
-pub use mathlib.Core.Bool.{Bool, Bool·not-not, _&&_, _||_, cond, false, not, or-false, true, true≢false}
-pub use mathlib.Core.List.{List, [], _++_, _∷_, append-assoc, append-nil}
+pub use mathlib.Core.Bool.{Bool, _&&_, _||_, cond, false, not, or-false, true, true≢false}
+pub use mathlib.Core.List.{List, [], _++_, _∷_, append-assoc}
 pub use mathlib.Core.Logic.{_⊎_, inl, inr}
 pub use mathlib.Core.Path.{_∙_, _≡_, ap, ap₂, refl, subst, sym}
 pub use native.Mathlib.Nat.{zero-add}

@@ -1,13 +1,11 @@
 -- Laws for marking and clearing: how many journal numbers a call can need, and the runs that it changes written into the journal, with
 -- its closing number behind them. Assumes nothing.
-use Rattle.ledger.proofs.Kit.{_≡_, ap₂, _∙_, _⊎_, inl, inr, Bool, List, [], _∷_, _++_, append-assoc, ℕ, suc, _+_, _*_, _-_, _%_, _≤_, _<_, arith, length, getD, take, set, length-set, getD-set-other, take-suc-set}
+use Rattle.ledger.proofs.Kit.{_≡_, ap₂, _∙_, _⊎_, inl, inr, Bool, List, [], _∷_, _++_, append-assoc, ℕ, suc, _+_, _*_, _%_, _≤_, _<_, arith, length, getD, take, set, length-set, getD-set-other, take-suc-set}
 use Rattle.positions.specs.Positions.{Positions, one}
 use Rattle.positions.specs.Runs.{run, changedRuns}
 use Rattle.positions.proofs.Changes.{changed-few}
-use Rattle.range_bitset.specs.Represents.{Represents}
-use Rattle.range_bitset.specs.Answers.{rangeRefusal}
 use Rattle.range_bitset.specs.declared.RangeBitset.{RangeBitset}
-use Rattle.set_runs.specs.Walk.{WritesRuns}
+use Rattle.set_runs.specs.Walks.{WritesRuns}
 use Rattle.set_runs.proofs.RunWalks.{Puts}
 use Rattle.ledger.specs.Machine.{Call, Range, Back, Wipe, needOf}
 use Rattle.ledger.specs.Journal.{pair, pairs, entry, written}

@@ -3,7 +3,7 @@ ghost use mathlib.Core.Path.{_≡_};
 ghost use Prim.Native.Nat.{_+_, _*_, _%_, _≤_};
 ghost use lib.ListN.{length};
 ghost use Rattle.positions.specs.Positions.{one};
-ghost use Rattle.set_runs.specs.Walk.{WritesRuns};
+ghost use Rattle.set_runs.specs.Walks.{WritesRuns};
 ghost use Rattle.ledger.specs.Journal.{pair};
 ghost use Rattle.ledger.specs.Inner.{WritesCall};
 use crate::Ledger;

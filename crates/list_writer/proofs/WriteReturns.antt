@@ -1,18 +1,18 @@
 -- Laws of the writer's returns: refused by head and storage, by a buffer with no room for the header, by one with none for the runs; and
 -- written. Assumes nothing.
-use Rattle.list_writer.proofs.Kit.{_≡_, refl, sym, ap, ap₂, _∙_, _⊎_, inl, inr, Bool, true, false, true≢false, cond, List, _++_, append-assoc, ℕ, _+_, _*_, _-_, _/_, _≤_, _<_, min, arith, leb-true, leb-false, le-leb, lt-leb, ne-eqb, leb, length, length-drop, getD, getD-drop, ext-getD, take, drop, length-take-le, take-append-drop, drop-at}
+use Rattle.list_writer.proofs.Kit.{_≡_, refl, sym, ap, ap₂, _∙_, inl, inr, Bool, true, false, true≢false, cond, List, _++_, append-assoc, ℕ, _+_, _*_, _-_, _/_, _≤_, _<_, min, arith, leb-true, leb-false, le-leb, lt-leb, ne-eqb, leb, length, length-drop, getD-drop, ext-getD, take, drop, length-take-le, take-append-drop, drop-at}
 use Rattle.positions.specs.Positions.{Positions}
 use Rattle.positions.specs.Runs.{Run, runs, changedRuns, encoded}
 use Rattle.positions.proofs.Changes.{own-runs, changed-few}
-use Rattle.positions.specs.Replies.{Reply, number, refusal, Accepted}
+use Rattle.positions.specs.Replies.{number, refusal}
 use Rattle.positions.proofs.Replies.{numbers-refusal}
 use Rattle.range_bitset.specs.Represents.{Represents, capacityOf}
-use Rattle.range_bitset.specs.Answers.{ofCounted, storageRefusal, rangeRefusal}
+use Rattle.range_bitset.specs.Answers.{storageRefusal, rangeRefusal}
 use Rattle.range_bitset.specs.declared.RangeBitset.{RangeBitset}
 use Rattle.range_bitset.specs.declared.Counted.the-variants as counted
 use Rattle.saved_list.specs.Format.{headerBytes, runBytes, fileOf}
 use Rattle.saved_list.proofs.WrittenFiles.{file-length}
-use Rattle.set_runs.specs.Walk.{RunsFit, WritesRuns}
+use Rattle.set_runs.specs.Walks.{RunsFit, WritesRuns}
 use Rattle.list_writer.specs.Entry.{fileFor, writeReply, writeRefusal, WriteEnsures}
 use Rattle.list_writer.specs.Inner.{put}
 use Rattle.list_writer.proofs.Stores.{put-length, put-drop, put-front}
@@ -27,11 +27,11 @@ whole-range h n z = rw (z, le-leb (capacityOf h) (capacityOf h) (omega arith))
 
 reply-long : (bytes : List ℕ) (n : ℕ) → length bytes ≤ n → writeReply bytes n ≡ number (length bytes)
 unfolding writeReply
-reply-long bytes n l = rw (le-leb (length bytes) n l)
+reply-long bytes n l = ap (λ (b : Bool). cond b (number (length bytes)) (refusal 9)) (le-leb (length bytes) n l)
 
 reply-short : (bytes : List ℕ) (n : ℕ) → n < length bytes → writeReply bytes n ≡ refusal 9
 unfolding writeReply
-reply-short bytes n l = rw (lt-leb (length bytes) n l)
+reply-short bytes n l = ap (λ (b : Bool). cond b (number (length bytes)) (refusal 9)) (lt-leb (length bytes) n l)
 
 pub number-is : (n k : ℕ) → number n ≡ number k → n ≡ k
 number-is n k x = cc

@@ -7,7 +7,7 @@ ghost use mathlib.Core.Bool.{false};
 ghost use Prim.Native.Nat.{_+_, _*_, _≤_, min as least};
 ghost use lib.ListN.{length};
 ghost use Rattle.saved_list.specs.Format.{mark, bytes16, bytes32, headerBytes, runBytes};
-ghost use Rattle.set_runs.specs.Walk.{WritesRuns};
+ghost use Rattle.set_runs.specs.Walks.{WritesRuns};
 ghost use Rattle.list_writer.specs.Entry.{WriteEnsures};
 ghost use Rattle.list_writer.specs.Inner.{put};
 use range_bitset::Counted;

@@ -1,6 +1,6 @@
 -- The two round trips, as theorems over what the writer and `open` promise. Assumes nothing.
-use Rattle.round_trip.proofs.Kit.{_≡_, refl, sym, ap, ap₂, _∙_, subst, Bool, true, false, not, cond, _&&_, List, [], _∷_, _++_, ℕ, _+_, _*_, _/_, _%_, _≤_, _<_, arith, eqb, leb, ltb, eq-eqb, ne-eqb, eqb-true, eqb-false, le-leb, le-ltb, lt-ltb, ltb-false, length, take, drop, getD, take-append-seam, true≢false}
-use Rattle.positions.specs.Positions.{Positions, count, within}
+use Rattle.round_trip.proofs.Kit.{_≡_, refl, sym, ap, ap₂, _∙_, subst, Bool, true, false, not, cond, _&&_, List, [], _∷_, _++_, ℕ, _/_, _%_, _≤_, _<_, arith, eqb, leb, ltb, ne-eqb, eqb-true, eqb-false, le-ltb, lt-ltb, ltb-false, length, take, drop, take-append-seam}
+use Rattle.positions.specs.Positions.{Positions, count}
 use Rattle.positions.specs.Runs.{Run, runs, covered, lengths, Ascending}
 use Rattle.positions.specs.Replies.{Reply, Numbers, Refusal, number, refusal, Accepted}
 use Rattle.positions.proofs.Bools.{and-left}
@@ -16,7 +16,7 @@ use Rattle.range_bitset.specs.declared.Counted.{Counted}
 use Rattle.range_bitset.specs.declared.Counted.the-variants as counted
 use Rattle.range_bitset.proofs.AcceptedHeads.{storage-accepted, good-bounds}
 use Rattle.range_bitset.proofs.AgreeingSets.{stored-agrees}
-use Rattle.saved_list.specs.Format.{savedWords, savedCount, savedCapacity, savedRuns, savedPositions, Good, firstBadRun, headed, whole, fileOf, Bytes}
+use Rattle.saved_list.specs.Format.{savedWords, savedCount, savedCapacity, savedPositions, Good, firstBadRun, headed, whole, fileOf, Bytes}
 use Rattle.saved_list.proofs.Bytes.{yes-headed, yes-whole, headed-yes, whole-yes}
 use Rattle.saved_list.proofs.GoodFiles.{ascending-count, count-ascending, first-bad-most}
 use Rattle.saved_list.proofs.Lists.{good-longest}

@@ -3,9 +3,9 @@
 use mathlib.Core.Path.{_≡_}
 use mathlib.Core.Bool.{cond}
 use mathlib.Core.List.{List, _++_}
-use Prim.Native.Nat.{ℕ, _<_}
+use Prim.Native.Nat.{ℕ}
 use lib.Dec.{leb, ltb}
-use lib.ListN.{length, drop, getD}
+use lib.ListN.{length, drop}
 use Rattle.positions.specs.Positions.{Positions, count}
 use Rattle.positions.specs.Replies.{Reply, Numbers, Refusal, number, refusal, Accepted}
 use Rattle.range_bitset.specs.Represents.{Represents, capacityOf}

@@ -1,7 +1,8 @@
--- Small files worked out on the definitions: a table of what each entry must answer, and what a good file holds. Assumes nothing.
+-- Small files worked out on the definitions: a table of what each entry must answer, what a good file holds, and the bytes that a capacity
+-- and its runs make. Assumes nothing.
 use Rattle.saved_list.proofs.Kit.{_≡_, refl, true, false, List, [], _∷_, _++_, map, ℕ}
 use Rattle.positions.specs.Runs.{run}
-use Rattle.saved_list.specs.Format.{runAt, runsAfter, savedRuns, savedPositions, firstBad, firstBadHeld}
+use Rattle.saved_list.specs.Format.{runAt, runsAfter, savedRuns, savedPositions, fileOf, firstBad, firstBadHeld}
 use Rattle.positions.specs.Replies.{Reply, Numbers, Refusal}
 use Rattle.saved_list.specs.Answers.{headerReply, lengthReply, runsReply}
 
@@ -47,3 +48,12 @@ good-list = refl
 good-set : (savedPositions good 69 ≡ true) × (savedPositions good 70 ≡ false) × (savedPositions good 100 ≡ true)
 unfolding savedPositions savedRuns runsAfter runAt
 good-set = (refl, refl, refl)
+
+good-bytes : fileOf 128 (run 10 70 ∷ run 100 128 ∷ []) ≡ good
+unfolding fileOf
+good-bytes = refl
+
+-- numbers of four bytes: the largest capacity, and its last positions
+large-bytes : fileOf 262144 (run 66051 262144 ∷ []) ≡ 77 ∷ 83 ∷ 76 ∷ 0 ∷ 1 ∷ 16 ∷ 0 ∷ 0 ∷ 0 ∷ 0 ∷ 1 ∷ 0 ∷ 1 ∷ 2 ∷ 3 ∷ 0 ∷ 4 ∷ 0 ∷ 0 ∷ []
+unfolding fileOf
+large-bytes = refl

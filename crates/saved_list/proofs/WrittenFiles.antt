@@ -1,10 +1,10 @@
 -- Laws of the bytes that a capacity and its runs make: how long they are, that reading them gives capacity and runs back, that they are
 -- a good file, and that a good file is the bytes of its own capacity and runs. Assumes nothing.
-use Rattle.saved_list.proofs.Kit.{_≡_, refl, sym, ap, ap₂, _∙_, List, [], _∷_, _++_, append-assoc, ℕ, zero, suc, _+_, _-_, _*_, _/_, _%_, _≤_, _<_, arith, length, length-append, drop, drop-cons, drop-of-length-le, take-append-drop, getD, getD-append-add, take}
+use Rattle.saved_list.proofs.Kit.{_≡_, refl, sym, ap, ap₂, _∙_, List, [], _∷_, _++_, append-assoc, ℕ, zero, suc, _+_, _*_, _/_, _%_, _≤_, _<_, arith, length, length-append, drop, drop-cons, drop-of-length-le, take-append-drop, getD, getD-append-add}
 use Rattle.positions.specs.Runs.{Run, run, encoded, Ascending}
 use Rattle.positions.proofs.Changes.{few-runs}
 use Rattle.saved_list.proofs.Lists.{runs-length}
-use Rattle.saved_list.specs.Format.{be16, be32, mark, savedWords, savedCount, savedCapacity, runAt, runsAfter, savedRuns, Headed, Whole, Good, bytes16, bytes32, headerBytes, runBytes, fileOf, Bytes}
+use Rattle.saved_list.specs.Format.{be16, be32, mark, savedWords, savedCount, savedCapacity, runAt, runsAfter, savedRuns, Headed, Good, bytes16, bytes32, headerBytes, runBytes, fileOf, Bytes}
 
 -- ---- how long they are
 

@@ -1,5 +1,5 @@
 -- The kit's names that the proofs of this crate use. Assumes nothing.
-pub use Prim.Native.Nat.{_%_, _*_, _+_, _-_, _/_, _<_, _≤_, suc, ℕ}
+pub use Prim.Native.Nat.{_%_, _*_, _+_, _-_, _<_, _≤_, ℕ}
 pub use borrow.Author.Needs.{needs}
 pub use borrow.Author.Tests.{le-leb, leb-false, leb-true, lt-leb}
 pub use lib.Dec.{leb}

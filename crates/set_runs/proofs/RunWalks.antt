@@ -1,6 +1,6 @@
 -- Laws of the walk: a search's place, the runs by two searches each, counted, few enough, and written by those above, each run as
 -- the numbers that `one` makes of it. Assumes nothing.
-use Rattle.set_runs.proofs.Kit.{_≡_, refl, sym, ap, _∙_, _⊎_, inl, inr, Bool, true, false, not, Bool·not-not, List, [], _∷_, _++_, append-assoc, append-nil, ℕ, suc, _+_, _*_, _-_, _%_, _/_, _≤_, _<_, arith, leb-true, leb-false, le-leb, lt-leb, leb, length, getD, take}
+use Rattle.set_runs.proofs.Kit.{_≡_, refl, sym, ap, _∙_, _⊎_, inl, inr, Bool, true, false, not, Bool·not-not, List, [], _∷_, _++_, append-assoc, append-nil, ℕ, _+_, _*_, _-_, _%_, _≤_, _<_, arith, leb-true, leb-false, le-leb, lt-leb, leb, length, getD, take}
 use Rattle.positions.specs.Positions.{Positions, Place, At, None, first}
 use Rattle.positions.specs.Runs.{Run, run, placeOr, runEnd, changedRuns, encoded}
 use Rattle.positions.proofs.Searches.{Searched, hit, miss, first-means}
@@ -14,7 +14,7 @@ use Rattle.range_bitset.specs.declared.RangeBitset.{RangeBitset}
 use Rattle.range_bitset.specs.declared.Found.{Found}
 use Rattle.range_bitset.specs.declared.Found.the-variants as found
 use Rattle.range_bitset.proofs.AcceptedHeads.{range-accepted}
-use Rattle.set_runs.specs.Walk.{Finds, RunsFit, CountsRuns, WritesRuns, foundIn}
+use Rattle.set_runs.specs.Walks.{Finds, RunsFit, CountsRuns, WritesRuns, foundIn}
 
 -- ---- a search
 

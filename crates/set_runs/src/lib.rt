@@ -3,7 +3,7 @@
 // those above: the ledger into its journal, list_writer into a saved list.
 // Assumes nothing of its callers: no entry has a `requires`.
 ghost use mathlib.Core.Path.{_≡_};
-ghost use Rattle.set_runs.specs.Walk.{Finds, RunsFit, CountsRuns, foundIn};
+ghost use Rattle.set_runs.specs.Walks.{Finds, RunsFit, CountsRuns, foundIn};
 use range_bitset::Found;
 use range_bitset::RangeBitset;
 

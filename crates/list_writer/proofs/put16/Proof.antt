@@ -1,5 +1,5 @@
 -- `put16` meets its contract: two stores. Assumes nothing.
-use Rattle.list_writer.proofs.Kit.{arith, needs, _+_, length-set}
+use Rattle.list_writer.proofs.Kit.{arith, needs, length-set}
 use Rattle.list_writer.proofs.Stores.{stored16}
 use Rattle.list_writer.proofs.put16.Statement.{statement}
 use Rattle.list_writer.proofs.put16.Tie as tie
