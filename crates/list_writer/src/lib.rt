@@ -24,7 +24,7 @@ fn min(x: usize, y: usize) -> usize
     if x <= y { x } else { y }
 }
 
-// A number's low 16 bits at a place.
+// A 16-bit number at a place.
 fn put16(file: &mut [u8], at: usize, x: u16)
     requires { ⌜ at + 2 ≤ length (now file) ⌝ }
     ensures { λ r. ⌜ now (file .exit) ≡ put at (bytes16 x) (now (file .entry)) ⌝ }
