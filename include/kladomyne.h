@@ -1,10 +1,11 @@
 /* Kladomyne's ledger library, for C and C++: the set of sheets, and the ledger, which is a set with an undo journal.
  *
- * Link target/staticlib/libcapi.a for the calls klado_set_ and target/staticlib/libcapi_ledger.a for the calls klado_ledger_ and
- * klado_list_, which `rt staticlib capi` and `rt staticlib capi_ledger` make, on x86-64 Linux; neither needs a symbol from outside.
- * examples/desk.c and examples/overnight.c are short callers. The library allocates nothing, keeps nothing between calls, and reads and writes only what the
- * caller lends for the length of a call: calls may run in several threads at once where they share no lent memory, or only
- * such as each of them takes as `const`. Every symbol and type has the prefix `klado_`.
+ * Link target/staticlib/libcapi.a for the calls klado_set_ and target/staticlib/libcapi_ledger.a for the calls klado_ledger_
+ * and klado_list_, which `rt staticlib capi` and `rt staticlib capi_ledger` make, on x86-64 Linux; neither needs a symbol
+ * from outside. examples/desk.c and examples/overnight.c are short callers. The library allocates nothing, keeps nothing
+ * between calls, and reads and writes only what the caller lends for the length of a call: calls may run in several threads
+ * at once where they share no lent memory, or only such as each of them takes as `const`. Every symbol and type has the
+ * prefix `klado_`.
  *
  * A set is a head, which goes in and comes back by value, and storage, which the caller owns and lends to each call.
  * It holds positions 0 up to its capacity, the capacity itself left out. A range start..end holds start and leaves
@@ -26,14 +27,15 @@
  *   - what is lent may hold anything, but must be readable and initialised in C's sense: zero it or make it static.
  *   - a `bool` is 0 or 1, as C and C++ make it.
  * Nothing else is owed: any head, any numbers in the storage and any arguments are allowed, and each call then returns and
- * stays in the numbers that were lent. What the calls promise below of their answer is promised where head and storage
- * are a pair that these calls left behind: the head is the one that the last call gave, and the storage has not
- * been written since, nor, for a ledger, the journal's first U numbers. On any other memory an accepted call's answer, its head
- * and the numbers that it may write may be anything, but that a ledger's W and J stay, its U is at most J, and a list's length is at
- * most the buffer's; and all that is said of refusals and of the other numbers still holds. (But for 6 and 9, where head and storage
- * are not sound: there is no set to count runs by. 6 is answered where U is J; never where as many runs fit as the range's n positions
- * can have, (n + 1) / 2; between these it may be. 9 is answered where the buffer is under 11 bytes; never where it has
- * KLADO_LIST_MOST; between these it may be.) What klado_set_audit, klado_ledger_new and klado_ledger_open promise is promised on any memory.
+ * stays in the numbers that were lent. What the calls promise below of their answer is promised where head and storage are a
+ * pair that these calls left behind: the head is the one that the last call gave, and the storage has not been written since,
+ * nor, for a ledger, the journal's first U numbers. On any other memory an accepted call's answer, its head and the numbers
+ * that it may write may be anything, but that a ledger's W and J stay, its U is at most J, and a list's length is at most the
+ * buffer's; and all that is said of refusals and of the other numbers still holds. (But for 6 and 9, where head and storage
+ * are not sound: there is no set to count runs by. 6 is answered where U is J; never where as many runs fit as the range's n
+ * positions can have, (n + 1) / 2; between these it may be. 9 is answered where the buffer is under 11 bytes; never where it
+ * has KLADO_LIST_MOST; between these it may be.) What klado_set_audit, klado_ledger_new and klado_ledger_open promise is
+ * promised on any memory.
  *
  * Refusals. Every answer opens with `refused`: 0, or the number of the first of these rules that is broken, in this order:
  *   1  new and open alone: the capacity is not 64 * W for a W that is a power of two from 1 to 4096, or J is above 16,384.
@@ -52,8 +54,9 @@
  * that it was given (for new and open a head of zeros, which every call refuses with 2). So a head can be replaced by the
  * answer's in every case.
  *
- * A call that is accepted writes only the first KLADO_SET_STORAGE numbers of the storage, journal numbers from the old U up to
- * the new one, and the buffer's bytes up to the length that klado_list_write answers; and only through pointers that are not to `const`.
+ * A call that is accepted writes only the first KLADO_SET_STORAGE numbers of the storage, journal numbers from the old U up
+ * to the new one, and the buffer's bytes up to the length that klado_list_write answers; and only through pointers that are
+ * not to `const`.
  */
 #ifndef KLADOMYNE_H
 #define KLADOMYNE_H
@@ -212,13 +215,13 @@ klado_ledger_answer klado_ledger_take_back(klado_ledger head, uint64_t *storage,
  * back. `allocated` and J stay as they are; the journal's numbers are left. Refused: 2, 3. */
 klado_ledger_answer klado_ledger_wipe(klado_ledger head, uint64_t *storage, size_t storage_len);
 
-/* Writes the saved list of a set, or of a ledger's set (`head.set`, with the ledger's storage), to the front of `file`, and answers its
- * length: 11 + 8 * n bytes for the set's n runs, the longest stretches of its positions, in ascending order. The bytes past them are
- * as they were. klado_ledger_open refuses such a list for J or for short slices alone, and else gives the same capacity and
- * positions, `allocated` set where there are any; and the set of a list that it accepted is written as that list again. The journal is
- * not saved: no call that stood can be taken back from the opened ledger. The set and its storage are only read. The work grows with the
- * runs, which are gone through twice: counted first, so that nothing is written where they do not fit, unless the buffer has
- * KLADO_LIST_MOST(capacity) bytes. Refused: 2, 3, 9. */
+/* Writes the saved list of a set, or of a ledger's set (`head.set`, with the ledger's storage), to the front of `file`, and
+ * answers its length: 11 + 8 * n bytes for the set's n runs, the longest stretches of its positions, in ascending order. The
+ * bytes past them are as they were. klado_ledger_open refuses such a list for J or for short slices alone, and else gives the
+ * same capacity and positions, `allocated` set where there are any; and the set of a list that it accepted is written as that
+ * list again. The journal is not saved: no call that stood can be taken back from the opened ledger. The set and its storage
+ * are only read. The work grows with the runs, which are gone through twice: counted first, so that nothing is written where
+ * they do not fit, unless the buffer has KLADO_LIST_MOST(capacity) bytes. Refused: 2, 3, 9. */
 klado_answer klado_list_write(klado_set head, const uint64_t *storage, size_t storage_len, uint8_t *file, size_t file_len);
 
 #ifdef __cplusplus

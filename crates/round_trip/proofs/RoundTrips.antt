@@ -30,7 +30,7 @@ use Rattle.ledger.specs.declared.Opened.the-variants as opened
 use Rattle.ledger.proofs.Refusals.{lent-accepted, set-accepts}
 use Rattle.list_writer.specs.Entry.{fileFor, writeReply, WriteEnsures}
 use Rattle.list_writer.proofs.WriteReturns.{refusal-first, reply-is}
-use Rattle.round_trip.specs.RoundTrip.{Reopens, Rewrites, then, Agrees}
+use Rattle.round_trip.specs.RoundTrip.{lentReply, Reopens, SetAndBack, Rewrites, FileAndBack, then, Agrees}
 
 -- ---- open's tests, in their order, where those of the file pass
 
@@ -39,7 +39,7 @@ decided : (hd ac jm wh le fb : Bool) (n r₁ r₃ r₇ r₈ : Reply) → hd ≡ 
 decided hd ac jm wh le fb n r₁ r₃ r₇ r₈ p q t u = rw (p, q, t, u)
 
 open-good : (file : List ℕ) (j n k : ℕ) → Good file → allowedCapacity (savedCapacity file) ≡ true
-    → openReply file j n k ≡ cond (leb j 16384) (cond (lentEnough (savedWords file) j n k) (number 0) (refusal 3)) (refusal 1)
+    → openReply file j n k ≡ lentReply (savedWords file) j n k
 unfolding openReply
 open-good file j n k g a =
     decided (headed file) (allowedCapacity (savedCapacity file)) (leb j 16384) (whole file) (lentEnough (savedWords file) j n k) (ltb (firstBadRun file) (savedCount file)) _ _ _ _ _
@@ -85,10 +85,10 @@ module _ (h : RangeBitset) (n : ℕ) (z : storageRefusal h n ≡ 0) (s : Positio
       ∙ runs-covered s 0 (capacityOf h) i ∙ ap (λ (b : Bool). b && s i) (within-in 0 (capacityOf h) i (omega arith) l)
 
   -- its file is refused for J and short slices alone
-  open-back : (j m k : ℕ) → openReply (fileFor h s) j m k ≡ cond (leb j 16384) (cond (lentEnough (h .words) j m k) (number 0) (refusal 3)) (refusal 1)
+  open-back : (j m k : ℕ) → openReply (fileFor h s) j m k ≡ lentReply (h .words) j m k
   open-back j m k =
       open-good (fileFor h s) j m k file-good allowed-back
-      ∙ ap (λ (w : ℕ). cond (leb j 16384) (cond (lentEnough w j m k) (number 0) (refusal 3)) (refusal 1)) file-words
+      ∙ ap (λ (w : ℕ). lentReply w j m k) file-words
 
 -- ---- sets that agree below the capacity
 
@@ -149,7 +149,7 @@ module _ (h : RangeBitset) (st : List ℕ) (s : Positions) (rep : Represents h s
     few-back : savedCount (fileFor h s) ≡ length (runs s 0 (capacityOf h))
     few-back = count-back (capacityOf h) (runs s 0 (capacityOf h)) (writable h (length st) lent s)
 
-    pub reopens : Reopens h s j st₂ journal r₂ st₂′
+    reopens : Reopens h s j st₂ journal r₂ st₂′
     reopens =
         record {
           refuses = opens .refuses ∙ open-back h (length st) lent s j (length st₂) (length journal);
@@ -158,6 +158,9 @@ module _ (h : RangeBitset) (st : List ℕ) (s : Positions) (rep : Represents h s
           flag = λ l e. opens .flag l e ∙ ap (λ (k : ℕ). not (eqb k 0)) few-back ∙ some-run s 0 (capacityOf h) (omega arith);
           no-calls = λ l e. (opens .holds l e .journal-length, none-used l _ _ _ _ _ (opens .holds l e));
         }
+
+pub set-and-back : SetAndBack
+set-and-back = reopens
 
 -- ---- from a file to its set and back
 
@@ -198,7 +201,7 @@ module _ (file : List ℕ) (bytes : Bytes file) (j : ℕ) (st journal : List ℕ
       ap (λ (c : ℕ). fileOf c (runs (savedPositions file) 0 c)) (held .capacity)
       ∙ ap (fileOf (savedCapacity file)) (good-longest file good-file) ∙ good-again file bytes good-file
 
-  pub rewrites : (buffer : List ℕ) (r : Counted) (buffer′ : List ℕ) → WriteEnsures (l .set) st′ buffer r buffer′ → Rewrites file buffer r buffer′
+  rewrites : (buffer : List ℕ) (r : Counted) (buffer′ : List ℕ) → WriteEnsures (l .set) st′ buffer r buffer′ → Rewrites file buffer r buffer′
   rewrites buffer r buffer′ w =
       let z = set-accepts l (l .journal) (length st′) (length journal) (lent-accepted l (l .journal) (length st′) (length journal) (held .lent)) in
       record {
@@ -206,6 +209,9 @@ module _ (file : List ℕ) (bytes : Bytes file) (j : ℕ) (st journal : List ℕ
         agrees = λ a. w .writes a (savedPositions file) represented ∙ ap (λ (f : List ℕ). f ++ drop (length f) buffer) file-again;
         unchanged = w .unchanged;
       }
+
+pub file-and-back : FileAndBack
+file-and-back = rewrites
 
 -- ---- both in one function
 
@@ -215,7 +221,7 @@ module _ (file : List ℕ) (j : ℕ) (st journal buffer : List ℕ) where
       → WriteEnsures (l .set) st′ buffer r buffer′ → Agrees file j (length st) (length journal) buffer r buffer′
   agrees-opened a l st′ r buffer′ b o e w =
       let o′ = subst (λ (x : Opened). OpenEnsures file j st journal x st′) e o in
-      let t = rewrites file b j st journal l st′ o′ buffer r buffer′ w in
+      let t = file-and-back file b j st journal l st′ o′ buffer r buffer′ w in
       record {
         answers = t .answers ∙ ap (λ (x : Reply). then x (writeReply file (length buffer))) (o′ .refuses);
         agrees = t .agrees;
