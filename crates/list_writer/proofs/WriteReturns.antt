@@ -5,23 +5,18 @@ use Rattle.positions.specs.Positions.{Positions}
 use Rattle.positions.specs.Runs.{Run, runs, changedRuns, encoded}
 use Rattle.positions.proofs.Changes.{own-runs, changed-few}
 use Rattle.positions.specs.Replies.{number, refusal}
-use Rattle.positions.proofs.Replies.{numbers-refusal}
+use Rattle.positions.proofs.Replies.{numbers-refusal, number-is}
 use Rattle.range_bitset.specs.Represents.{Represents, capacityOf}
 use Rattle.range_bitset.specs.Answers.{storageRefusal, rangeRefusal}
+use Rattle.range_bitset.proofs.AcceptedHeads.{range-accepts}
 use Rattle.range_bitset.specs.declared.RangeBitset.{RangeBitset}
 use Rattle.range_bitset.specs.declared.Counted.the-variants as counted
 use Rattle.saved_list.specs.Format.{headerBytes, runBytes, fileOf}
 use Rattle.saved_list.proofs.WrittenFiles.{file-length}
 use Rattle.set_runs.specs.Walks.{RunsFit, WritesRuns}
 use Rattle.list_writer.specs.Entry.{fileFor, writeReply, writeRefusal, WriteEnsures}
-use Rattle.list_writer.specs.Inner.{put}
-use Rattle.list_writer.proofs.Stores.{put-length, put-drop, put-front}
-
--- ---- a call within the capacity, where head and storage are accepted
-
-whole-range : (h : RangeBitset) (n : ℕ) → storageRefusal h n ≡ 0 → rangeRefusal h n (capacityOf h) ≡ 0
-unfolding rangeRefusal
-whole-range h n z = rw (z, le-leb (capacityOf h) (capacityOf h) (omega arith))
+use Rattle.list_writer.specs.Inner.{overwritten}
+use Rattle.list_writer.proofs.Stores.{over-length, over-drop, over-front}
 
 -- ---- the reply, by the number of runs
 
@@ -32,9 +27,6 @@ reply-long bytes n l = ap (λ (b : Bool). cond b (number (length bytes)) (refusa
 reply-short : (bytes : List ℕ) (n : ℕ) → n < length bytes → writeReply bytes n ≡ refusal 9
 unfolding writeReply
 reply-short bytes n l = ap (λ (b : Bool). cond b (number (length bytes)) (refusal 9)) (lt-leb (length bytes) n l)
-
-pub number-is : (n k : ℕ) → number n ≡ number k → n ≡ k
-number-is n k x = cc
 
 -- an accepted reply is the bytes' length, and they fit
 pub reply-is : (bytes : List ℕ) (n m : ℕ) → number n ≡ writeReply bytes m → (n ≡ length bytes) × (length bytes ≤ m)
@@ -101,6 +93,9 @@ module _ (h : RangeBitset) (st file : List ℕ) (most : ℕ) (z : storageRefusal
   accepted-header : writeRefusal h (length st) (length file) ≡ 0
   accepted-header = rw (refusal-next h (length st) (length file) z, le-leb 11 (length file) long)
 
+  in-range : rangeRefusal h (length st) (capacityOf h) ≡ 0
+  in-range = range-accepts h (length st) (capacityOf h) z (omega arith)
+
   -- the runs of the set, as the walk has them
   own : (s : Positions) → length (changedRuns s 0 (capacityOf h) false) ≡ length (runs s 0 (capacityOf h))
   own s = ap length (own-runs s 0 (capacityOf h))
@@ -119,13 +114,13 @@ module _ (h : RangeBitset) (st file : List ℕ) (most : ℕ) (z : storageRefusal
 
       many : (s : Positions) → Represents h st s → length file < length (fileFor h s)
       many s r =
-          let x : leb (length (changedRuns s 0 (capacityOf h) false)) most ≡ false = sym (f .fits (whole-range h (length st) z) s r) ∙ not-fit in
+          let x : leb (length (changedRuns s 0 (capacityOf h) false)) most ≡ false = sym (f .fits in-range s r) ∙ not-fit in
           omega (arith, leb-false (length (changedRuns s 0 (capacityOf h) false)) most x, own s, changed-few s 0 (capacityOf h) false, file-length (capacityOf h) (runs s 0 (capacityOf h)))
 
   -- the runs behind the header's place, then the header
   module _ (file₁ file₂ : List ℕ) (n r : ℕ) (fit : Bool) (f : RunsFit h st 0 (capacityOf h) false most fit) (yes : fit ≡ true)
       (w : WritesRuns runBytes h st 0 (capacityOf h) false most n 11 (11 + 8 * n) file file₁)
-      (e : file₂ ≡ put 0 (headerBytes (h .words) n) file₁) (answer : r ≡ 11 + 8 * n) where
+      (e : file₂ ≡ overwritten 0 (headerBytes (h .words) n) file₁) (answer : r ≡ 11 + 8 * n) where
     inside : r ≤ length file
     inside = omega (arith, w .most-runs)
 
@@ -136,17 +131,17 @@ module _ (h : RangeBitset) (st file : List ℕ) (most : ℕ) (z : storageRefusal
         (λ i l. getD-drop (11 + 8 * n) file₁ i 0 ∙ w .others (11 + 8 * n + i) (inr (omega arith)) ∙ sym (getD-drop (11 + 8 * n) file i 0))
 
     kept : drop (11 + 8 * n) file₂ ≡ drop (11 + 8 * n) file
-    kept = ap (drop (11 + 8 * n)) e ∙ put-drop 0 (11 + 8 * n) (headerBytes (h .words) n) file₁ (omega arith) ∙ behind
+    kept = ap (drop (11 + 8 * n)) e ∙ over-drop 0 (11 + 8 * n) (headerBytes (h .words) n) file₁ (omega arith) ∙ behind
 
     -- the buffer, in its parts
     front : file₂ ≡ headerBytes (h .words) n ++ drop 11 file₁
-    front = e ∙ put-front (headerBytes (h .words) n) file₁ (omega (arith, w .same-length))
+    front = e ∙ over-front (headerBytes (h .words) n) file₁ (omega (arith, w .same-length))
 
     few : (s : Positions) → Represents h st s → length (changedRuns s 0 (capacityOf h) false) ≤ most
-    few s t = leb-true (length (changedRuns s 0 (capacityOf h) false)) most (sym (f .fits (whole-range h (length st) z) s t) ∙ yes)
+    few s t = leb-true (length (changedRuns s 0 (capacityOf h) false)) most (sym (f .fits in-range s t) ∙ yes)
 
     count : (s : Positions) → Represents h st s → n ≡ length (runs s 0 (capacityOf h))
-    count s t = w .all-runs (whole-range h (length st) z) s t (few s t) ∙ own s
+    count s t = w .all-runs in-range s t (few s t) ∙ own s
 
     as-long : (s : Positions) → Represents h st s → length (fileFor h s) ≡ r
     as-long s t = omega (arith, file-length (capacityOf h) (runs s 0 (capacityOf h)), count s t)
@@ -154,7 +149,7 @@ module _ (h : RangeBitset) (st file : List ℕ) (most : ℕ) (z : storageRefusal
     runs-stand : (s : Positions) → Represents h st s → drop 11 file₁ ≡ encoded runBytes (runs s 0 (capacityOf h)) ++ drop (11 + 8 * n) file
     runs-stand s t =
         ap (drop 11) (sym (take-append-drop (11 + 8 * n) file₁)
-        ∙ ap₂ (λ (l m : List ℕ). l ++ m) (w .written-are (whole-range h (length st) z) s t (few s t)) behind
+        ∙ ap₂ (λ (l m : List ℕ). l ++ m) (w .written-are in-range s t (few s t)) behind
         ∙ append-assoc (take 11 file) (encoded runBytes (changedRuns s 0 (capacityOf h) false)) (drop (11 + 8 * n) file))
         ∙ drop-at (take 11 file) (encoded runBytes (changedRuns s 0 (capacityOf h) false) ++ drop (11 + 8 * n) file) 11 (length-take-le 11 file long)
         ∙ ap (λ (rs : List Run). encoded runBytes rs ++ drop (11 + 8 * n) file) (own-runs s 0 (capacityOf h))
@@ -172,7 +167,7 @@ module _ (h : RangeBitset) (st file : List ℕ) (most : ℕ) (z : storageRefusal
           only-9 = λ y. inl tt;
           long-9 = λ y l. tt;
           unchanged = λ y. absurd (y tt);
-          same-length = ap length e ∙ put-length 0 (headerBytes (h .words) n) file₁ ∙ w .same-length;
+          same-length = ap length e ∙ over-length 0 (headerBytes (h .words) n) file₁ ∙ w .same-length;
           inside = λ k x. omega (arith, number-is r k x, inside);
           file-kept = λ k x. let p : 11 + 8 * n ≡ k = sym answer ∙ number-is r k x in rw (← p) kept;
           answers = λ y s t. ap number (sym (as-long s t)) ∙ sym (reply-long (fileFor h s) (length file) (omega (arith, as-long s t, inside)));

@@ -9,7 +9,7 @@ ghost use lib.ListN.{length};
 ghost use Rattle.saved_list.specs.Format.{mark, bytes16, bytes32, headerBytes, runBytes};
 ghost use Rattle.set_runs.specs.Walks.{WritesRuns};
 ghost use Rattle.list_writer.specs.Entry.{WriteEnsures};
-ghost use Rattle.list_writer.specs.Inner.{put};
+ghost use Rattle.list_writer.specs.Inner.{overwritten};
 use range_bitset::Counted;
 use range_bitset::RangeBitset;
 use saved_list::HEADER_SIZE;
@@ -27,7 +27,7 @@ fn min(x: usize, y: usize) -> usize
 // A 16-bit number at a place.
 fn put16(file: &mut [u8], at: usize, x: u16)
     requires { ⌜ at + 2 ≤ length (now file) ⌝ }
-    ensures { λ r. ⌜ now (file .exit) ≡ put at (bytes16 x) (now (file .entry)) ⌝ }
+    ensures { λ r. ⌜ now (file .exit) ≡ overwritten at (bytes16 x) (now (file .entry)) ⌝ }
 {
     file[at] = (x / 256) as u8;
     file[at + 1] = (x % 256) as u8;
@@ -36,7 +36,7 @@ fn put16(file: &mut [u8], at: usize, x: u16)
 // A number's low 32 bits at a place.
 fn put32(file: &mut [u8], at: usize, x: usize)
     requires { ⌜ at + 4 ≤ length (now file) ⌝ }
-    ensures { λ r. ⌜ now (file .exit) ≡ put at (bytes32 x) (now (file .entry)) ⌝ }
+    ensures { λ r. ⌜ now (file .exit) ≡ overwritten at (bytes32 x) (now (file .entry)) ⌝ }
 {
     put16(file, at, (x / 65536 % 65536) as u16);
     put16(file, at + 2, (x % 65536) as u16);
@@ -45,7 +45,7 @@ fn put32(file: &mut [u8], at: usize, x: usize)
 // The letters, at the front.
 fn put_mark(file: &mut [u8])
     requires { ⌜ 3 ≤ length (now file) ⌝ }
-    ensures { λ r. ⌜ now (file .exit) ≡ put 0 mark (now (file .entry)) ⌝ }
+    ensures { λ r. ⌜ now (file .exit) ≡ overwritten 0 mark (now (file .entry)) ⌝ }
 {
     file[0] = MARK[0];
     file[1] = MARK[1];
@@ -55,7 +55,7 @@ fn put_mark(file: &mut [u8])
 // The letters, the version, W and the run count.
 fn put_header(file: &mut [u8], words: u32, runs: usize)
     requires { ⌜ 11 ≤ length (now file) ⌝ }
-    ensures { λ r. ⌜ now (file .exit) ≡ put 0 (headerBytes words runs) (now (file .entry)) ⌝ }
+    ensures { λ r. ⌜ now (file .exit) ≡ overwritten 0 (headerBytes words runs) (now (file .entry)) ⌝ }
 {
     put_mark(file);
     put16(file, 3, VERSION);

@@ -57,10 +57,10 @@ abbrev pub lengths : List Run → ℕ
 lengths [] = 0
 lengths (r ∷ rs) = (r .end - r .start) + lengths rs
 
--- the runs as numbers, one run after the other: `one r` for each run r
+-- the runs as numbers, one run after the other: `code r` for each run r
 abbrev pub encoded : (Run → List ℕ) → List Run → List ℕ
-encoded one [] = []
-encoded one (r ∷ rs) = one r ++ encoded one rs
+encoded code [] = []
+encoded code (r ∷ rs) = code r ++ encoded code rs
 
 -- each run has its start below its end, at most e, and each start lies above the end before it, the first at or above b
 abbrev pub Ascending : ℕ → ℕ → List Run → Type 0

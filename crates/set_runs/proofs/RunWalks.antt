@@ -1,5 +1,5 @@
 -- Laws of the walk: a search's place, the runs by two searches each, counted, few enough, and written by those above, each run as
--- the numbers that `one` makes of it. Assumes nothing.
+-- the numbers that `code` makes of it. Assumes nothing.
 use Rattle.set_runs.proofs.Kit.{_≡_, refl, sym, ap, _∙_, _⊎_, inl, inr, Bool, true, false, not, Bool·not-not, List, [], _∷_, _++_, append-assoc, append-nil, ℕ, _+_, _*_, _-_, _%_, _≤_, _<_, arith, leb-true, leb-false, le-leb, lt-leb, leb, length, getD, take}
 use Rattle.positions.specs.Positions.{Positions, Place, At, None, first}
 use Rattle.positions.specs.Runs.{Run, run, placeOr, runEnd, changedRuns, encoded}
@@ -97,16 +97,16 @@ fits-counted h st a e v most n l c = record { short = λ x. absurd (omega arith)
 -- ---- writing
 
 -- i runs are written from u to `at`, and the rest lie from `from` on; x₀ is the list before, x as it is now
-pub record Writing (one : Run → List ℕ) (h : RangeBitset) (st : List ℕ) (a e : ℕ) (v : Bool) (u : ℕ) (x₀ x : List ℕ) (i at from : ℕ) : Type 0 where
+pub record Writing (code : Run → List ℕ) (h : RangeBitset) (st : List ℕ) (a e : ℕ) (v : Bool) (u : ℕ) (x₀ x : List ℕ) (i at from : ℕ) : Type 0 where
   pub low : u ≤ at
   pub same-length : length x ≡ length x₀
   pub others : (k : ℕ) → (k < u) ⊎ (at ≤ k) → getD x k 0 ≡ getD x₀ k 0
   pub left : Counting h st a e v i from
   pub so-far : rangeRefusal h (length st) e ≡ 0 → (s : Positions) → Represents h st s
-      → take at x ++ encoded one (changedRuns s from e v) ≡ take u x₀ ++ encoded one (changedRuns s a e v)
+      → take at x ++ encoded code (changedRuns s from e v) ≡ take u x₀ ++ encoded code (changedRuns s a e v)
 
-pub writing-start : (one : Run → List ℕ) (h : RangeBitset) (st : List ℕ) (a e : ℕ) (v : Bool) (u : ℕ) (x : List ℕ) → Writing one h st a e v u x x 0 u a
-writing-start one h st a e v u x =
+pub writing-start : (code : Run → List ℕ) (h : RangeBitset) (st : List ℕ) (a e : ℕ) (v : Bool) (u : ℕ) (x : List ℕ) → Writing code h st a e v u x x 0 u a
+writing-start code h st a e v u x =
     record { low = omega arith; same-length = refl; others = λ k l. refl; left = counting-start h st a e v; so-far = λ z s r. refl }
 
 -- the numbers l put into the list x from `at` to at′; x′ is the list afterwards
@@ -134,12 +134,12 @@ written-next h st e v s from p q z k l some =
     let w : q % 4294967296 ≡ q = omega (arith, place-le s v p e) in
     rw (u, w) (next-run s from e v p q k l some)
 
--- where `one` sees a position's low 32 bits alone, or is handed them, what it puts is the run that the two searches found
-pub writing-next : (one : Run → List ℕ) (h : RangeBitset) (st : List ℕ) (a e : ℕ) (v : Bool) (u : ℕ) (x₀ x x′ : List ℕ) (i from p q at at′ : ℕ)
+-- the run that the two searches found is put behind the others, its ends in 32 bits, which hold every position
+pub writing-next : (code : Run → List ℕ) (h : RangeBitset) (st : List ℕ) (a e : ℕ) (v : Bool) (u : ℕ) (x₀ x x′ : List ℕ) (i from p q at at′ : ℕ)
     → p < e → Finds h st from e (not v) p → Finds h st p e v q
-    → Puts (one (run (p % 4294967296) (q % 4294967296))) at at′ x x′ → Writing one h st a e v u x₀ x i at from
-    → Writing one h st a e v u x₀ x′ (i + 1) at′ q
-writing-next one h st a e v u x₀ x x′ i from p q at at′ g k l n w =
+    → Puts (code (run (p % 4294967296) (q % 4294967296))) at at′ x x′ → Writing code h st a e v u x₀ x i at from
+    → Writing code h st a e v u x₀ x′ (i + 1) at′ q
+writing-next code h st a e v u x₀ x x′ i from p q at at′ g k l n w =
     record {
       low = omega (arith, n .low, w .low);
       same-length = n .same-length ∙ w .same-length;
@@ -153,16 +153,16 @@ writing-next one h st a e v u x₀ x x′ i from p q at at′ g k l n w =
     rest c (inr b) = n .others c (inr b) ∙ w .others c (inr (omega (arith, n .low)))
 
     joined : (s : Positions) → changedRuns s from e v ≡ run (p % 4294967296) (q % 4294967296) ∷ changedRuns s q e v
-        → take at x ++ encoded one (changedRuns s from e v) ≡ take u x₀ ++ encoded one (changedRuns s a e v)
-        → take at′ x′ ++ encoded one (changedRuns s q e v) ≡ take u x₀ ++ encoded one (changedRuns s a e v)
+        → take at x ++ encoded code (changedRuns s from e v) ≡ take u x₀ ++ encoded code (changedRuns s a e v)
+        → take at′ x′ ++ encoded code (changedRuns s q e v) ≡ take u x₀ ++ encoded code (changedRuns s a e v)
     joined s c d =
-        rw (n .here, append-assoc (take at x) (one (run (p % 4294967296) (q % 4294967296))) (encoded one (changedRuns s q e v))) (rw c at d)
+        rw (n .here, append-assoc (take at x) (code (run (p % 4294967296) (q % 4294967296))) (encoded code (changedRuns s q e v))) (rw c at d)
 
 -- the loop ends where no run is left, as far as all of them fit
-writing-ends : (one : Run → List ℕ) (h : RangeBitset) (st : List ℕ) (a e : ℕ) (v : Bool) (u most : ℕ) (x₀ x : List ℕ) (i at from : ℕ) → i ≤ most
+writing-ends : (code : Run → List ℕ) (h : RangeBitset) (st : List ℕ) (a e : ℕ) (v : Bool) (u most : ℕ) (x₀ x : List ℕ) (i at from : ℕ) → i ≤ most
     → (rangeRefusal h (length st) e ≡ 0 → (s : Positions) → Represents h st s → length (changedRuns s a e v) ≤ most → length (changedRuns s from e v) ≡ 0)
-    → Writing one h st a e v u x₀ x i at from → WritesRuns one h st a e v most i u at x₀ x
-writing-ends one h st a e v u most x₀ x i at from l none w =
+    → Writing code h st a e v u x₀ x i at from → WritesRuns code h st a e v most i u at x₀ x
+writing-ends code h st a e v u most x₀ x i at from l none w =
     record {
       most-runs = l;
       same-length = w .same-length;
@@ -171,20 +171,20 @@ writing-ends one h st a e v u most x₀ x i at from l none w =
       written-are = λ z s r t. closed s (none z s r t) (w .so-far z s r);
     }
   where
-    empty : (rs : List Run) → length rs ≡ 0 → encoded one rs ≡ []
+    empty : (rs : List Run) → length rs ≡ 0 → encoded code rs ≡ []
     empty [] b = refl
     empty (r ∷ rs) b = absurd (omega arith)
 
-    closed : (s : Positions) → length (changedRuns s from e v) ≡ 0 → take at x ++ encoded one (changedRuns s from e v) ≡ take u x₀ ++ encoded one (changedRuns s a e v)
-        → take at x ≡ take u x₀ ++ encoded one (changedRuns s a e v)
+    closed : (s : Positions) → length (changedRuns s from e v) ≡ 0 → take at x ++ encoded code (changedRuns s from e v) ≡ take u x₀ ++ encoded code (changedRuns s a e v)
+        → take at x ≡ take u x₀ ++ encoded code (changedRuns s a e v)
     closed s b d = rw (← d, empty (changedRuns s from e v) b, append-nil (take at x))
 
-pub writing-done : (one : Run → List ℕ) (h : RangeBitset) (st : List ℕ) (a e : ℕ) (v : Bool) (u most : ℕ) (x₀ x : List ℕ) (i at from p : ℕ)
-    → Finds h st from e (not v) p → e ≤ p → i ≤ most → Writing one h st a e v u x₀ x i at from → WritesRuns one h st a e v most i u at x₀ x
-writing-done one h st a e v u most x₀ x i at from p f g l w =
-    writing-ends one h st a e v u most x₀ x i at from l (λ z s r t. ap length (no-run s from e v p (f z s r) g)) w
+pub writing-done : (code : Run → List ℕ) (h : RangeBitset) (st : List ℕ) (a e : ℕ) (v : Bool) (u most : ℕ) (x₀ x : List ℕ) (i at from p : ℕ)
+    → Finds h st from e (not v) p → e ≤ p → i ≤ most → Writing code h st a e v u x₀ x i at from → WritesRuns code h st a e v most i u at x₀ x
+writing-done code h st a e v u most x₀ x i at from p f g l w =
+    writing-ends code h st a e v u most x₀ x i at from l (λ z s r t. ap length (no-run s from e v p (f z s r) g)) w
 
-pub writing-most : (one : Run → List ℕ) (h : RangeBitset) (st : List ℕ) (a e : ℕ) (v : Bool) (u most : ℕ) (x₀ x : List ℕ) (i at from : ℕ)
-    → i ≤ most → most ≤ i → Writing one h st a e v u x₀ x i at from → WritesRuns one h st a e v most i u at x₀ x
-writing-most one h st a e v u most x₀ x i at from l g w =
-    writing-ends one h st a e v u most x₀ x i at from l (λ z s r t. omega (arith, w .left z s r)) w
+pub writing-most : (code : Run → List ℕ) (h : RangeBitset) (st : List ℕ) (a e : ℕ) (v : Bool) (u most : ℕ) (x₀ x : List ℕ) (i at from : ℕ)
+    → i ≤ most → most ≤ i → Writing code h st a e v u x₀ x i at from → WritesRuns code h st a e v most i u at x₀ x
+writing-most code h st a e v u most x₀ x i at from l g w =
+    writing-ends code h st a e v u most x₀ x i at from l (λ z s r t. omega (arith, w .left z s r)) w

@@ -29,16 +29,16 @@ pub record RunsFit (h : RangeBitset) (st : List ℕ) (a e : ℕ) (v : Bool) (mos
   pub short : e - a ≤ 2 * most → r ≡ true
   pub fits : rangeRefusal h (length st) e ≡ 0 → (s : Positions) → Represents h st s → r ≡ leb (length (changedRuns s a e v)) most
 
--- `runs` runs, each as the numbers that `one` makes of it, written into the list x from u to u′, all of them where they are at most
+-- `runs` runs, each as the numbers that `code` makes of it, written into the list x from u to u′, all of them where they are at most
 -- `most`; x′ is the list afterwards
-pub record WritesRuns (one : Run → List ℕ) (h : RangeBitset) (st : List ℕ) (a e : ℕ) (v : Bool) (most runs u u′ : ℕ) (x x′ : List ℕ) : Type 0 where
+pub record WritesRuns (code : Run → List ℕ) (h : RangeBitset) (st : List ℕ) (a e : ℕ) (v : Bool) (most runs u u′ : ℕ) (x x′ : List ℕ) : Type 0 where
   pub most-runs : runs ≤ most
   pub same-length : length x′ ≡ length x
   pub others : (i : ℕ) → (i < u) ⊎ (u′ ≤ i) → getD x′ i 0 ≡ getD x i 0
   pub all-runs : rangeRefusal h (length st) e ≡ 0 → (s : Positions) → Represents h st s → length (changedRuns s a e v) ≤ most
       → runs ≡ length (changedRuns s a e v)
   pub written-are : rangeRefusal h (length st) e ≡ 0 → (s : Positions) → Represents h st s → length (changedRuns s a e v) ≤ most
-      → take u′ x′ ≡ take u x ++ encoded one (changedRuns s a e v)
+      → take u′ x′ ≡ take u x ++ encoded code (changedRuns s a e v)
 
 abbrev pub foundIn : Found → ℕ → ℕ
 foundIn (found.At i) e = i

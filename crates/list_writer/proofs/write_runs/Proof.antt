@@ -3,7 +3,7 @@
 use Rattle.list_writer.proofs.Kit.{arith, needs, ap, _∙_, length, false, _+_, _*_, _-_, _≤_, _≡_}
 use Rattle.saved_list.specs.Format.{runBytes}
 use Rattle.set_runs.proofs.RunWalks.{Writing, writing-start, writing-next, writing-done, writing-most}
-use Rattle.list_writer.proofs.Stores.{put-length, stored-run}
+use Rattle.list_writer.proofs.Stores.{over-length, stored-run}
 use Rattle.list_writer.proofs.write_runs.Statement.{statement}
 use Rattle.list_writer.proofs.write_runs.Tie as tie
 
@@ -28,7 +28,7 @@ put32-requires c κs = omega (arith, c .before .before .before .before .before .
 put32-requires-2 : tie.Need-put32-requires-2 Inv-loop μ-loop
 put32-requires-2 c κs =
     let a = c .before .before .before in
-    omega (arith, a .before .before .before .before .before .before .loop .inv .2 .same-length, ap length (a .put32 .ensures) ∙ put-length _ _ _)
+    omega (arith, a .before .before .before .before .before .before .loop .inv .2 .same-length, ap length (a .put32 .ensures) ∙ over-length _ _ _)
 
 loop-again : tie.Need-loop-again Inv-loop μ-loop
 loop-again c =
