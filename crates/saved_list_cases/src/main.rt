@@ -1,7 +1,7 @@
 // Reads each saved list that its arguments name, and prints what the reader gives, in the order of opening: the name, then
 // refusal 7 for the header, 7 for the length, or 8 with the first bad run's index, or else W, n and the runs.
 // What it prints is held to `stdout`, which was made from 01's format and not by this code. Assumes that the kit's arguments, open,
-// read and write do what they say.
+// read and write do what they say, and that a file has at most 4,096 bytes: more are not looked at.
 #![tactic(auto)]
 
 use saved_list::{FoundRun, Header, LengthCheck, RunCheck};
@@ -55,8 +55,9 @@ fn print_named(rt: &(impl Files + Alloc + Print + Eprint), name: &str) -> io::Re
         Ok(file) => file,
         Err(error) => return eprintln!(rt; "{name}: {error}"),
     };
+    let length = file.len().min(4096);
     print!(rt; "{name}: ")?;
-    print_file(rt, file.as_slice())?;
+    print_file(rt, &file[..length])?;
     println!(rt)
 }
 
