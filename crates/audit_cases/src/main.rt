@@ -22,7 +22,7 @@ fn print_answer(out: &mut impl Write, answer: Tested) -> io::Result<()> {
             }
         }
         Tested::Refused(k) => {
-            say::print(out, Answer::Refused(k))?;
+            say::print(out, Answer::Refused(k)).1?;
             Ok(())
         }
     }

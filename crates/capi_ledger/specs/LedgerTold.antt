@@ -46,7 +46,7 @@ with_ledger a h = record { refused = a.refused; value = a.value; head = h }
 abbrev pub told_called : Called → KladoLedgerAnswer
 told_called a = with_ledger (told_counted a.answer) (ledger_head a.head)
 
--- ---- the exports: new's answer is toldOpened of the ledger's newOf
+-- ---- the exports: new's answer is `told_opened` of the ledger's `new_of`
 
 abbrev pub OpenTold : List ℕ → ℕ → List ℕ → List ℕ → KladoOpened → List ℕ → Type 0
 OpenTold file j st journal c st' = Told Opened KladoOpened (λ r. OpenEnsures file j st journal r st') told_opened c

@@ -195,14 +195,14 @@ module _ (h : Ledger) (st j : List ℕ) where
     after = memory (record { set = h'; journal = h.journal; used = h.used - (2 * n + 1) }) st' j
 
     -- on a sound ledger, c the last standing call
-    record Back-done (m : Machine) (c : Standing) (cs : List Standing) : Type 0 where
+    record BackDone (m : Machine) (c : Standing) (cs : List Standing) : Type 0 where
       answered : count_back ≡ c.changed
       represents : Represents h' st' (held m.opened cs)
       in_use : h.used - (2 * n + 1) ≡ needs cs
       journal : take (h.used - (2 * n + 1)) j ≡ journal_of m.opened cs
       flag : h'.allocated ≡ (h.set.allocated || (not c.value && ltb 0 c.changed))
 
-    done : (m : Machine) → Holds (memory h st j) m → (c : Standing) (cs : List Standing) → m.standing ≡ c ∷ cs → Back-done m c cs
+    done : (m : Machine) → Holds (memory h st j) m → (c : Standing) (cs : List Standing) → m.standing ≡ c ∷ cs → BackDone m c cs
     unfolding set_of used standing_call
     done m q c cs e =
         record {

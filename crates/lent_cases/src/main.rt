@@ -12,7 +12,7 @@ use std::io::Write;
 fn said(out: &mut impl Write, got: Called) -> io::Result<Ledger> {
     let answer = got.answer;
     let head = got.head;
-    say::print(out, say::of_counted(answer))?;
+    say::print(out, say::of_counted(answer)).1?;
     Ok(head)
 }
 
@@ -26,15 +26,15 @@ fn new(
 ) -> io::Result<Ledger> {
     match Ledger::new(capacity, limit, storage, journal) {
         Opened::Head(head) => {
-            say::print(out, Answer::Number(0))?;
+            say::print(out, Answer::Number(0)).1?;
             Ok(head)
         }
         Opened::Refused(k) => {
-            say::print(out, Answer::Refused(k))?;
+            say::print(out, Answer::Refused(k)).1?;
             Ok(none())
         }
         Opened::BadRun(_) => {
-            say::print(out, Answer::Refused(8))?;
+            say::print(out, Answer::Refused(8)).1?;
             Ok(none())
         }
     }
@@ -81,8 +81,8 @@ fn filled(
         ledger_lent::assign_through(head, storage, journal, 0, 128, true),
     )?;
     let set = head.set;
-    say::print(out, say::of_found(set.next_zero(storage, 0, 128)))?;
-    say::print(out, say::of_counted(set.count(storage, 64, 128)))?;
+    say::print(out, say::of_found(set.next_zero(storage, 0, 128))).1?;
+    say::print(out, say::of_counted(set.count(storage, 64, 128))).1?;
     Ok(head)
 }
 
@@ -95,9 +95,9 @@ fn taken_back(
 ) -> io::Result<Ledger> {
     let head = said(out, ledger_lent::take_back_through(head, storage, journal))?;
     let set = head.set;
-    say::print(out, say::of_found(set.next_one(storage, 0, 128)))?;
-    say::print(out, say::of_found(set.next_zero(storage, 10, 128)))?;
-    say::print(out, say::of_counted(set.count(storage, 0, 128)))?;
+    say::print(out, say::of_found(set.next_one(storage, 0, 128))).1?;
+    say::print(out, say::of_found(set.next_zero(storage, 10, 128))).1?;
+    say::print(out, say::of_counted(set.count(storage, 0, 128))).1?;
     Ok(head)
 }
 
@@ -123,8 +123,8 @@ fn mixed(
     let first = two.first;
     let second = two.second;
     let last = two.head;
-    say::print(out, say::of_counted(first))?;
-    say::print(out, say::of_counted(second))?;
+    say::print(out, say::of_counted(first)).1?;
+    say::print(out, say::of_counted(second)).1?;
     said(
         out,
         ledger_lent::assign_through(last, storage, journal, 1, 4, true),

@@ -1,7 +1,7 @@
 // Reads a saved list from standard input, opens it, writes the opened set again, and prints those bytes, or the refusal: `stdout` is
 // `stdin`, which was made from 01's format and not by this code. The two round trips, from a set to its file and back and from a
 // file to its set and back, are theorems over the promises of writing and opening (specs/RoundTrip.antt, proofs/RoundTrips.antt).
-// Assumes that std's read and write do what they say, and that the file has at most 4,096 bytes: more are not looked at.
+// Assumes that std's read and write do what they say, and that the file has at most 4,096 bytes: more are not read.
 #![tactic(auto)]
 
 ghost use Rattle.std.specs.Prelude.{length};
@@ -31,12 +31,11 @@ fn open_and_write(
 
 fn main(rt: HostRuntime) -> io::Result<()> {
     let mut file = Vec::new(rt.alloc());
-    rt.stdin().read_to_end(&mut file)?;
-    let read = file.len().min(4096);
+    rt.stdin().take(4096).read_to_end(&mut file)?;
     let mut storage = [0x5555555555555555u64; 4290];
     let journal = [0x55555555u32; 4];
     let mut buffer = [0u8; 4096];
-    match open_and_write(&file[..read], 4, &mut storage, &journal, &mut buffer) {
+    match open_and_write(file.as_slice(), 4, &mut storage, &journal, &mut buffer) {
         Counted::Count(length) => rt.stdout().write_all(&buffer[..length as usize]),
         Counted::Refused(k) => print!(rt; "refused {k}"),
     }

@@ -1,10 +1,11 @@
 // Reads each saved list that its arguments name, and prints what the reader gives, in the order of opening: the name, then
 // refusal 7 for the header, 7 for the length, or 8 with the first bad run's index, or else W, n and the runs.
 // What it prints is held to `stdout`, which was made from 01's format and not by this code. Assumes that the kit's arguments, open,
-// read and write do what they say, and that a file has at most 4,096 bytes: more are not looked at.
+// read and write do what they say, and that a file has at most 4,096 bytes: more are not read.
 #![tactic(auto)]
 
 use saved_list::{FoundRun, Header, LengthCheck, RunCheck};
+use std::io::Read;
 use std::rt::Files;
 use std::{env, fs, io};
 
@@ -49,15 +50,17 @@ fn print_file(rt: &impl Print, file: &[u8]) -> io::Result<()> {
     }
 }
 
-// The file of a name, on one line. One that cannot be read is told apart, and the next one is taken.
+// The file of a name, on one line. One that cannot be opened is told apart, and the next one is taken; of one that cannot be read to
+// its end there is what was read.
 fn print_named(rt: &(impl Files + Alloc + Print + Eprint), name: &str) -> io::Result<()> {
-    let file = match fs::read(rt, name) {
+    let file = match fs::open(rt, name) {
         Ok(file) => file,
         Err(error) => return eprintln!(rt; "{name}: {error}"),
     };
-    let length = file.len().min(4096);
+    let mut bytes = Vec::new(rt.alloc());
+    let _ = file.take(4096).read_to_end(&mut bytes);
     print!(rt; "{name}: ")?;
-    print_file(rt, &file[..length])?;
+    print_file(rt, bytes.as_slice())?;
     println!(rt)
 }
 

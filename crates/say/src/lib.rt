@@ -3,7 +3,7 @@
 // line's length alone. Assumes that the kit's write does what it says.
 #![tactic(auto)]
 
-ghost use Rattle.std.specs.Prelude.{◌≡◌, length, IfOk, OnOk};
+ghost use Rattle.std.specs.Prelude.{◌≡◌, length, OnOk};
 ghost use Rattle.std.specs.Io.KnownBytes.{Appends};
 ghost use Rattle.range_bitset.specs.Answers.{of_counted, of_tested, of_found};
 ghost use Rattle.command_lines.specs.Answers.{printed, answer_of, low32};
@@ -44,14 +44,13 @@ pub fn of_found(found: Found) -> Answer
     }
 }
 
-// Prints an answer's line, and answers how many bytes it has: 12 at the most. A writer whose bytes are known then holds the line
-// after what it held.
-pub fn print<W: Write>(out: &mut W, answer: Answer) -> io::Result<usize>
-    ensures line_length { IfOk result (λ n. n ≡ length (printed answer)) }
-    ensures written { OnOk result (Appends (W.contents out.old) (W.contents out.new) (printed answer)) }
+// Prints an answer's line, and answers how many bytes it has, 12 at the most, and whether it was written. A writer whose bytes are
+// known then holds the line after what it held.
+pub fn print<W: Write>(out: &mut W, answer: Answer) -> (usize, io::Result<()>)
+    ensures line_length { result.0 ≡ length (printed answer) }
+    ensures written { OnOk result.1 (Appends (W.contents out.old) (W.contents out.new) (printed answer)) }
 {
     let mut line = [0u8; 12];
     let n = command_lines::put_answer(&mut line, 0, answer);
-    out.write_all(&line[..n])?;
-    Ok(n)
+    (n, out.write_all(&line[..n]))
 }

@@ -12,7 +12,7 @@ use std::io::Write;
 // Prints a name and an answer's line.
 fn told(out: &mut impl Write, name: &str, answer: Answer) -> io::Result<()> {
     write!(out, "{name}")?;
-    say::print(out, answer)?;
+    say::print(out, answer).1?;
     Ok(())
 }
 

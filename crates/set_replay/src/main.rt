@@ -195,7 +195,7 @@ fn print(out: &mut impl Write, said: Answer) -> io::Result<()> {
     if let Answer::Nothing = said {
         return writeln!(out, "-");
     }
-    say::print(out, said)?;
+    say::print(out, said).1?;
     Ok(())
 }
 
