@@ -51,6 +51,12 @@ pub record Keywordless (line : List ℕ) : Type 0 where
   pub no_zero : starts (spaced zero) line ≡ false
   pub no_new : starts (spaced new) line ≡ false
 
+-- as the six tests tell it
+pub keywordless : (line : List ℕ) → false ≡ starts (spaced mark) line → false ≡ starts (spaced clear) line → false ≡ starts (spaced count) line
+    → false ≡ starts (spaced one) line → false ≡ starts (spaced zero) line → false ≡ starts (spaced new) line → Keywordless line
+keywordless line a b c d e f =
+    record { no_mark = sym a; no_clear = sym b; no_count = sym c; no_one = sym d; no_zero = sym e; no_new = sym f }
+
 pub with_none : (w : List ℕ) (p : Pair) → same w new ≡ false → same w mark ≡ false → same w clear ≡ false → same w count ≡ false
     → same w one ≡ false → same w zero ≡ false → with w p ≡ Bad
 with_none w Not a b c d e f = refl

@@ -2,7 +2,7 @@
 -- or that it starts with none. Assumes nothing.
 use Rattle.command_lines.proofs.Kit.{refl, sym, ap, ◌∙◌}
 use Rattle.command_lines.specs.Lines.{fields, meaning, with, mark, clear, count, one, zero, new, back, wipe}
-use Rattle.command_lines.proofs.Meaning.{keyword_line, alone_line, bad_line, not_four, not_alone, Keywordless}
+use Rattle.command_lines.proofs.Meaning.{keyword_line, alone_line, bad_line, not_four, not_alone, keywordless}
 use Rattle.command_lines.proofs.parse.Goals as goal
 
 pub returns-then-starts_with : goal.returns-then-starts_with
@@ -37,14 +37,7 @@ returns-then-starts_with-6 c =
 pub returns-then-line-ne4 : goal.returns-then-line-ne4
 returns-then-line-ne4 c =
     let l = c.args.line.now in
-    let h : Keywordless l = record {
-      no_mark = sym c.if-starts_with.ensures;
-      no_clear = sym c.if-starts_with-2.ensures;
-      no_count = sym c.if-starts_with-3.ensures;
-      no_one = sym c.if-starts_with-4.ensures;
-      no_zero = sym c.if-starts_with-5.ensures;
-      no_new = sym c.if-starts_with-6.ensures;
-    } in
+    let h = keywordless l c.if-starts_with.ensures c.if-starts_with-2.ensures c.if-starts_with-3.ensures c.if-starts_with-4.ensures c.if-starts_with-5.ensures c.if-starts_with-6.ensures in
     sym (bad_line l h (not_four back l refl c.if-line-ne4.true) (not_four wipe l refl c.if-line-ne4.true))
 
 pub returns-then-starts_with-7 : goal.returns-then-starts_with-7
@@ -58,12 +51,5 @@ returns-then-starts_with-8 c = sym (ap meaning (alone_line wipe _ (sym c.if-star
 pub returns : goal.returns
 returns c =
     let l = c.args.line.now in
-    let h : Keywordless l = record {
-      no_mark = sym c.if-starts_with.ensures;
-      no_clear = sym c.if-starts_with-2.ensures;
-      no_count = sym c.if-starts_with-3.ensures;
-      no_one = sym c.if-starts_with-4.ensures;
-      no_zero = sym c.if-starts_with-5.ensures;
-      no_new = sym c.if-starts_with-6.ensures;
-    } in
+    let h = keywordless l c.if-starts_with.ensures c.if-starts_with-2.ensures c.if-starts_with-3.ensures c.if-starts_with-4.ensures c.if-starts_with-5.ensures c.if-starts_with-6.ensures in
     sym (bad_line l h (not_alone back l (sym c.if-starts_with-7.ensures)) (not_alone wipe l (sym c.if-starts_with-8.ensures)))
