@@ -16,11 +16,9 @@ use Rattle.audit.specs.Sound.{plain, SoundBlock, Words}
 use Rattle.range_bitset.specs.Inner.{Room, mixed_count}
 use Rattle.range_bitset.specs.Shown.{mixed_of, block_of}
 use Rattle.audit.specs.Inner.{Tells, Audits, SoundMasks, InWords, stored_population, explicit_of, mixed_population, SoundMixed, WordsAudited, MixedAudited}
-use Rattle.audit.specs.declared.Audited.{Audited}
-use Rattle.audit.specs.declared.Audited.TheVariants as audited
+use Rattle.std.proofs.Common.{Option, Some, None}
 use Rattle.range_bitset.specs.declared.MixedBlock.{MixedBlock}
-use Rattle.range_bitset.specs.declared.ShownBlock.{ShownBlock}
-use Rattle.range_bitset.specs.declared.ShownBlock.TheVariants as block
+use Rattle.range_bitset.specs.declared.Block.TheVariants as block
 use Rattle.range_bitset.specs.declared.State.{State}
 use Rattle.range_bitset.specs.declared.State.TheVariants.{Empty, Mixed, Full}
 use Rattle.range_bitset.proofs.Walked.{read_by, ones_most, mixed_marked}
@@ -43,26 +41,14 @@ told_eq a b = record { yes = λ e. eqb-true a b e; no = λ e p. eqb-false a b e 
 
 -- ---- answers that tell how many
 
-number : Audited → ℕ
-number (audited.Sound k) = k
-number audited.Unsound = 0
+pub sound_with : {P : Type 0} {n k : ℕ} → P → k ≡ n → Audits P n (Some k)
+sound_with p q = record { yes = λ j e. (p, (cc)); no = λ e. cc }
 
-sound_not : (k : ℕ) → audited.Sound k ≡ audited.Unsound → ⊥
-sound_not k e = let z : ◌≡◌ {A = ℕ} 0 1 = ap tag e in absurd (omega arith)
-  where
-    tag : Audited → ℕ
-    tag (audited.Sound k) = 0
-    tag audited.Unsound = 1
-
-pub sound_with : {P : Type 0} {n k : ℕ} → P → k ≡ n → Audits P n (audited.Sound k)
-unfolding number
-sound_with p q = record { yes = λ j e. (p, ap number (sym e) ∙ q); no = λ e. absurd (sound_not _ e) }
-
-pub unsound : {P : Type 0} {n : ℕ} → (P → ⊥) → Audits P n audited.Unsound
-unsound f = record { yes = λ k e. absurd (sound_not k (sym e)); no = λ e. f }
+pub unsound : {P : Type 0} {n : ℕ} → (P → ⊥) → Audits P n None
+unsound f = record { yes = λ k e. cc; no = λ e. f }
 
 -- what a question comes to, where the rest of it is answered
-pub audits_as : {P Q : Type 0} {n k : ℕ} {r : Audited} → Audits P n r → (P → Q × (n ≡ k)) → (Q → P) → Audits Q k r
+pub audits_as : {P Q : Type 0} {n k : ℕ} {r : Option ℕ} → Audits P n r → (P → Q × (n ≡ k)) → (Q → P) → Audits Q k r
 audits_as t f g = record { yes = λ j e. let p = t.yes j e in let q = f p.0 in (q.0, p.1 ∙ q.1); no = λ e q. t.no e (g q) }
 
 -- ---- masks
@@ -123,10 +109,10 @@ module _ (st : List ℕ) (b m known : ℕ) where
     walk_at i z = i (count_trailing_zeros 64 left) (w.part _ (tz_set 64 left z w.fits))
 
     -- it is 0, or all ones
-    pub walk_zero : left ≢ 0 → get_or st (64 * b + count_trailing_zeros 64 left) 0 ≡ 0 → WordsAudited st b m known audited.Unsound
+    pub walk_zero : left ≢ 0 → get_or st (64 * b + count_trailing_zeros 64 left) 0 ≡ 0 → WordsAudited st b m known None
     walk_zero z e = unsound (λ f. (f (count_trailing_zeros 64 left) (w.part _ (tz_set 64 left z w.fits))).0 e)
 
-    pub walk_ones : left ≢ 0 → get_or st (64 * b + count_trailing_zeros 64 left) 0 ≡ ALL → WordsAudited st b m known audited.Unsound
+    pub walk_ones : left ≢ 0 → get_or st (64 * b + count_trailing_zeros 64 left) 0 ≡ ALL → WordsAudited st b m known None
     walk_ones z e = unsound (λ f. (f (count_trailing_zeros 64 left) (w.part _ (tz_set 64 left z w.fits))).1 e)
 
     -- it is neither, and is counted
@@ -155,7 +141,7 @@ module _ (st : List ℕ) (b m known : ℕ) where
             (λ u. p (k ∙ u), λ u. q (k ∙ u))
         by j g e true d false f = absurd (true≢false (sym (ap₂ (λ (x y : Bool). x && not y) d f) ∙ e))
 
-    pub walk_last : left ≡ 0 → WordsAudited st b m known (audited.Sound n)
+    pub walk_last : left ≡ 0 → WordsAudited st b m known (Some n)
     walk_last e =
         sound_with (λ j g. w.past j g (ap (λ (x : ℕ). bit x j) e ∙ bit_zero j))
         (omega (arith, w.counted, ap (stored_population st b) e, walk_none 64 (λ j. ones (get_or st (64 * b + j) 0))))
@@ -194,7 +180,7 @@ module _ (W : ℕ) (st : List ℕ) (b : ℕ) where
       let N = at W st (nonzero b) in
       let V = valid W b in
       sym
-      (mixed_marked W st b V u F (explicit_of (mixed_of W st b)) (u _) (λ i. within_same (bit F i) (bit V i) (λ p. z.fits i (z.within_nonzero i p)))
+      (mixed_marked W st b V F (explicit_of (mixed_of W st b)) (u _) (λ i. within_same (bit F i) (bit V i) (λ p. z.fits i (z.within_nonzero i p)))
       (λ i.
       stored_bit u i ∙ ap (λ (x : Bool). x && not (bit F i)) (within_same (bit N i) (bit V i) (z.fits i))
       ∙ same₃ (λ v f n. (v && n) && not f) (λ v f n. (v && not f) && n) tt (bit V i) (bit F i) (bit N i)))
@@ -231,12 +217,12 @@ pub stored_in : (st : List ℕ) (b n f v : ℕ) → ((j : ℕ) → bit n j ≡ t
 stored_in st b n f v h i j p = i j (h j (and_left (bit n j) _ (sym (bit_of_and n (ALL - f) j) ∙ p)))
 
 -- the stored words are as they must be; with the full ones they have k positions
-module _ (st : List ℕ) (b : ℕ) (m : MixedBlock) (k : ℕ) (w : WordsAudited st b (explicit_of m) (ones m.full * 64) (audited.Sound k)) where
-  pub mixed_other : m.population ≢ k → MixedAudited st b m audited.Unsound
+module _ (st : List ℕ) (b : ℕ) (m : MixedBlock) (k : ℕ) (w : WordsAudited st b (explicit_of m) (ones m.full * 64) (Some k)) where
+  pub mixed_other : m.population ≢ k → MixedAudited st b m None
   mixed_other d = unsound (λ o. d (o.counted ∙ sym (w.yes k refl).1))
 
   pub mixed_told : {r : Bool} → Tells r (SoundMasks m.nonzero m.full m.valid) → r ≡ true → m.nonzero ≢ 0 → m.full ≢ m.valid → m.population ≡ k
-      → MixedAudited st b m (audited.Sound k)
+      → MixedAudited st b m (Some k)
   mixed_told t e z a d =
       let s = w.yes k refl in
       sound_with (record { masks = t.yes e; some = z; not_all = a; words = s.0; counted = d ∙ s.1 }) s.1
@@ -271,60 +257,19 @@ module _ (W : ℕ) (st : List ℕ) (b : ℕ) (u : Words st) (m : state_of W st b
         counted = z.counted ∙ sym (mixed_counted W st b u m masks);
       }
 
--- ---- a block by what is shown of it
+-- ---- a block by what is shown of it: it is shown by its own state
 
-tag : ShownBlock → ℕ
-tag block.Empty = 0
-tag (block.Mixed m) = 1
-tag (block.Full n) = 2
-tag (block.Refused k) = 3
+pub shown_empty : (W : ℕ) (st : List ℕ) (b : ℕ) (x : State) → block.Empty ≡ block_of W st b x → x ≡ Empty
+shown_empty W st b Empty e = refl
+shown_empty W st b Mixed e = cc
+shown_empty W st b Full e = cc
 
-size : ShownBlock → ℕ
-size block.Empty = 0
-size (block.Mixed m) = 0
-size (block.Full n) = n
-size (block.Refused k) = 0
+pub shown_full : (W : ℕ) (st : List ℕ) (b n : ℕ) (x : State) → block.Full n ≡ block_of W st b x → (x ≡ Full) × (n ≡ 64 * words_of W b)
+shown_full W st b n Empty e = cc
+shown_full W st b n Mixed e = cc
+shown_full W st b n Full e = (refl, (cc))
 
-held : MixedBlock → ShownBlock → MixedBlock
-held d block.Empty = d
-held d (block.Mixed m) = m
-held d (block.Full n) = d
-held d (block.Refused k) = d
-
--- r shows block b of the state x
-module _ (W : ℕ) (st : List ℕ) (b : ℕ) (x : State) (r : ShownBlock) (e : r ≡ block_of W st b x) where
-  -- it is shown by its own state
-  state_of_lem : (y : State) → tag r ≡ tag (block_of W st b y) → x ≡ y
-  unfolding tag
-  state_of_lem y p = by x y (ap tag (sym e) ∙ p)
-    where
-      by : (x y : State) → tag (block_of W st b x) ≡ tag (block_of W st b y) → x ≡ y
-      by Empty Empty q = refl
-      by Empty Mixed q = absurd (omega (arith, q))
-      by Empty Full q = absurd (omega (arith, q))
-      by Mixed Empty q = absurd (omega (arith, q))
-      by Mixed Mixed q = refl
-      by Mixed Full q = absurd (omega (arith, q))
-      by Full Empty q = absurd (omega (arith, q))
-      by Full Mixed q = absurd (omega (arith, q))
-      by Full Full q = refl
-
-  pub shown_empty : r ≡ block.Empty → x ≡ Empty
-  shown_empty p = state_of_lem Empty (ap tag p)
-
-  pub shown_full : (n : ℕ) → r ≡ block.Full n → (x ≡ Full) × (n ≡ 64 * words_of W b)
-  unfolding tag size
-  shown_full n p = let q = state_of_lem Full (ap tag p) in (q, ap size (sym p ∙ e ∙ ap (block_of W st b) q))
-
-  pub shown_mixed : (m : MixedBlock) → r ≡ block.Mixed m → (x ≡ Mixed) × (m ≡ mixed_of W st b)
-  unfolding tag held
-  shown_mixed m p = let q = state_of_lem Mixed (ap tag p) in (q, ap (held m) (sym p ∙ e ∙ ap (block_of W st b) q))
-
-  pub shown_refused : (k : ℕ) → r ≡ block.Refused k → ⊥
-  unfolding tag
-  shown_refused k p = by x (ap tag (sym p ∙ e))
-    where
-      by : (y : State) → 3 ≡ tag (block_of W st b y) → ⊥
-      by Empty q = absurd (omega arith)
-      by Mixed q = absurd (omega arith)
-      by Full q = absurd (omega arith)
+pub shown_mixed : (W : ℕ) (st : List ℕ) (b : ℕ) (m : MixedBlock) (x : State) → block.Mixed m ≡ block_of W st b x → (x ≡ Mixed) × (m ≡ mixed_of W st b)
+shown_mixed W st b m Empty e = cc
+shown_mixed W st b m Mixed e = (refl, (cc))
+shown_mixed W st b m Full e = cc

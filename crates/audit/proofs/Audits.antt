@@ -8,23 +8,21 @@ use Rattle.range_bitset.specs.Read.{state_of}
 use Rattle.range_bitset.specs.Represents.{block_count}
 use Rattle.audit.specs.Sound.{SoundStorage, Sound, Words}
 use Rattle.range_bitset.specs.Answers.{storage_refusal, point_refusal}
-use Rattle.range_bitset.specs.Shown.{tops_of, block_of, TopsEnsures, BlockEnsures}
+use Rattle.range_bitset.specs.Shown.{tops_of, mixed_of, block_of, TopsEnsures, BlockEnsures}
 use Rattle.audit.specs.Entry.{AuditEnsures}
 use Rattle.audit.specs.Inner.{Tells, Audits, MixedAudited, BlockAudited, BlocksAudited, StorageAudited, SoundMasks, InWords, SoundAt, SoundBlocks}
 use Rattle.range_bitset.specs.declared.RangeBitset.{RangeBitset}
 use Rattle.range_bitset.specs.declared.MixedBlock.{MixedBlock}
-use Rattle.range_bitset.specs.declared.State.{State}
-use Rattle.range_bitset.specs.declared.State.TheVariants.{Empty, Mixed, Full}
-use Rattle.audit.specs.declared.Audited.{Audited}
-use Rattle.audit.specs.declared.Audited.TheVariants as audited
+use Rattle.range_bitset.specs.declared.State.TheVariants.{Mixed}
+use Rattle.std.proofs.Common.{Option, Some, None, Ok, Err}
+use Rattle.answers.specs.Refusals.{number_of}
+use Rattle.answers.specs.declared.Refusal.{Refusal}
+use Rattle.answers.proofs.Numbers.{number_some}
 use Rattle.range_bitset.specs.declared.Tops.{Tops}
-use Rattle.range_bitset.specs.declared.ShownTops.{ShownTops}
-use Rattle.range_bitset.specs.declared.ShownTops.TheVariants as tops
-use Rattle.range_bitset.specs.declared.ShownBlock.{ShownBlock}
-use Rattle.range_bitset.specs.declared.ShownBlock.TheVariants as block
-use Rattle.range_bitset.specs.declared.Tested.TheVariants as tested
+use Rattle.range_bitset.specs.declared.Block.{Block}
+use Rattle.range_bitset.specs.declared.Block.TheVariants as block
 use Rattle.range_bitset.proofs.AcceptedHeads.{accepted, point_accepts}
-use Rattle.audit.proofs.AuditBlocks.{told_not, told_as, told_eq, sound_with, audits_as, masks_fit, fit_masks, mixed_counted, empty_counted, full_counted, words_in, shown_sound, sound_shown, shown_empty, shown_full, shown_mixed, shown_refused}
+use Rattle.audit.proofs.AuditBlocks.{told_as, told_eq, sound_with, audits_as, masks_fit, fit_masks, mixed_counted, empty_counted, full_counted, words_in, shown_sound, sound_shown, shown_empty, shown_full, shown_mixed}
 
 -- ---- the blocks, and the storage
 
@@ -40,31 +38,23 @@ module _ (W : ℕ) (st : List ℕ) where
       by (no p) = let e : b ≡ c = omega arith in subst (SoundAt W st) e g
 
   -- a block that breaks a rule
-  pub blocks_stop : {n : ℕ} {r : Audited} (b : ℕ) → b < blocks W → Audits (SoundAt W st b) n r → r ≡ audited.Unsound → SoundBlocks W st (blocks W) → ⊥
+  pub blocks_stop : {n : ℕ} {r : Option ℕ} (b : ℕ) → b < blocks W → Audits (SoundAt W st b) n r → r ≡ None → SoundBlocks W st (blocks W) → ⊥
   blocks_stop b h t e f = t.no e (f b h)
 
 -- what is shown of the top masks, and then the blocks, tell whether the storage is sound
-module _ (h : RangeBitset) (st : List ℕ) (e : storage_refusal h (length st) ≡ 0) (r : ShownTops) (s : TopsEnsures h st r) where
-  tops_are : (m : Tops) → r ≡ tops.Tops m → m ≡ tops_of h.words st
-  tops_are m p = ap held (sym p ∙ s.shows e)
-    where
-      held : ShownTops → Tops
-      held (tops.Tops m) = m
-      held (tops.Refused k) = m
+module _ (h : RangeBitset) (st : List ℕ) (e : storage_refusal h (length st) ≡ 0) where
+  tops_are : (m : Tops) → TopsEnsures h st (Ok m) → m ≡ tops_of h.words st
+  tops_are m s = let p = s.shows e in cc
 
-  pub tops_not_refused : (k : ℕ) → r ≡ tops.Refused k → ⊥
-  tops_not_refused k p = let z : ◌≡◌ {A = ℕ} 1 0 = ap tag (sym p ∙ s.shows e) in absurd (omega arith)
-    where
-      tag : ShownTops → ℕ
-      tag (tops.Tops m) = 0
-      tag (tops.Refused k) = 1
+  pub tops_not_refused : (k : Refusal) → TopsEnsures h st (Err k) → ⊥
+  tops_not_refused k s = number_some k (s.refuses ∙ e)
 
-  pub tops_stop : {q : Bool} (m : Tops) → r ≡ tops.Tops m → Tells q (SoundMasks m.nonzero m.full m.valid) → q ≡ false → SoundStorage h.words st → ⊥
+  pub tops_stop : {q : Bool} (m : Tops) → TopsEnsures h st (Ok m) → Tells q (SoundMasks m.nonzero m.full m.valid) → q ≡ false → SoundStorage h.words st → ⊥
   tops_stop m p t f z =
       let o = fit_masks (blocks h.words) _ _ z.top_nonzero_fits z.top_within in
       t.no f (subst (λ (x : Tops). SoundMasks x.nonzero x.full x.valid) (sym (tops_are m p)) o)
 
-  pub storage_told : {q : Bool} {v : Audited} (m : Tops) → Words st → r ≡ tops.Tops m → Tells q (SoundMasks m.nonzero m.full m.valid) → q ≡ true
+  pub storage_told : {q : Bool} {v : Option ℕ} (m : Tops) → Words st → TopsEnsures h st (Ok m) → Tells q (SoundMasks m.nonzero m.full m.valid) → q ≡ true
       → BlocksAudited h.words st v → StorageAudited h.words st v
   storage_told m u p t f v =
       let o = subst (λ (x : Tops). SoundMasks x.nonzero x.full x.valid) (tops_are m p) (t.yes f) in
@@ -77,55 +67,40 @@ module _ (h : RangeBitset) (st : List ℕ) (e : storage_refusal h (length st) �
 pub block_accepted : (h : RangeBitset) (n b : ℕ) → storage_refusal h n ≡ 0 → b < blocks h.words → point_refusal h n (4096 * b) ≡ 0
 block_accepted h n b e l = point_accepts h n (4096 * b) e (omega arith)
 
-unmixed : State → ℕ
-unmixed Empty = 0
-unmixed Mixed = 1
-unmixed Full = 2
-
-empty_mixed : Empty ≡ Mixed → ⊥
-unfolding unmixed
-empty_mixed e = let z : ◌≡◌ {A = ℕ} 0 1 = ap unmixed e in absurd (omega arith)
-
-full_mixed : Full ≡ Mixed → ⊥
-unfolding unmixed
-full_mixed e = let z : ◌≡◌ {A = ℕ} 2 1 = ap unmixed e in absurd (omega arith)
-
 -- what is shown of a block tells whether it meets 01's rules, and how many positions it has
-module _ (h : RangeBitset) (st : List ℕ) (b : ℕ) (e : storage_refusal h (length st) ≡ 0) (l : b < blocks h.words) (r : ShownBlock) (s : BlockEnsures h st (4096 * b) r) where
-  shown_as : r ≡ block_of h.words st b (state_of h.words st b)
-  shown_as =
+module _ (h : RangeBitset) (st : List ℕ) (b : ℕ) (e : storage_refusal h (length st) ≡ 0) (l : b < blocks h.words) where
+  shown_as : (r : Block) → BlockEnsures h st (4096 * b) (Ok r) → r ≡ block_of h.words st b (state_of h.words st b)
+  shown_as r s =
       let i : 4096 * b / 4096 ≡ b = omega arith in
-      s.shows (block_accepted h (length st) b e l) ∙ ap (λ (x : ℕ). block_of h.words st x (state_of h.words st x)) i
+      let p = s.shows (block_accepted h (length st) b e l) in
+      let q : r ≡ block_of h.words st (4096 * b / 4096) (state_of h.words st (4096 * b / 4096)) = cc in
+      q ∙ ap (λ (x : ℕ). block_of h.words st x (state_of h.words st x)) i
 
-  -- a block that is not mixed
-  other : (x : State) → (x ≡ Mixed → ⊥) → state_of h.words st b ≡ x → SoundAt h.words st b
-  other x f p m = absurd (f (sym p ∙ m))
+  pub empty_told : BlockEnsures h st (4096 * b) (Ok block.Empty) → BlockAudited h.words st b (Some 0)
+  empty_told s =
+      let x = shown_empty h.words st b (state_of h.words st b) (shown_as _ s) in
+      sound_with (λ m. cc) (sym (empty_counted h.words st b x))
 
-  pub empty_told : r ≡ block.Empty → BlockAudited h.words st b (audited.Sound 0)
-  empty_told p =
-      let x = shown_empty h.words st b (state_of h.words st b) r shown_as p in
-      sound_with (other Empty empty_mixed x) (sym (empty_counted h.words st b x))
+  pub full_told : (n : ℕ) → BlockEnsures h st (4096 * b) (Ok (block.Full n)) → BlockAudited h.words st b (Some n)
+  full_told n s =
+      let x = shown_full h.words st b n (state_of h.words st b) (shown_as _ s) in
+      sound_with (λ m. cc) (x.1 ∙ sym (full_counted h.words st b x.0))
 
-  pub full_told : (n : ℕ) → r ≡ block.Full n → BlockAudited h.words st b (audited.Sound n)
-  full_told n p =
-      let x = shown_full h.words st b (state_of h.words st b) r shown_as n p in
-      sound_with (other Full full_mixed x.0) (x.1 ∙ sym (full_counted h.words st b x.0))
+  pub block_not_refused : (k : Refusal) → BlockEnsures h st (4096 * b) (Err k) → ⊥
+  block_not_refused k s = number_some k (s.refuses ∙ block_accepted h (length st) b e l)
 
-  pub block_not_refused : (k : ℕ) → r ≡ block.Refused k → ⊥
-  block_not_refused k p = shown_refused h.words st b (state_of h.words st b) r shown_as k p
+  module _ (m : MixedBlock) (s : BlockEnsures h st (4096 * b) (Ok (block.Mixed m))) where
+    shown_of : (state_of h.words st b ≡ Mixed) × (m ≡ mixed_of h.words st b)
+    shown_of = shown_mixed h.words st b m (state_of h.words st b) (shown_as _ s)
 
-  module _ (m : MixedBlock) (p : r ≡ block.Mixed m) where
     pub block_words : InWords st b m.valid
-    block_words =
-        let q = (shown_mixed h.words st b (state_of h.words st b) r shown_as m p).1 in
-        subst (λ (x : MixedBlock). InWords st b x.valid) (sym q) (words_in h.words st b (accepted h st e) l)
+    block_words = subst (λ (x : MixedBlock). InWords st b x.valid) (sym shown_of.1) (words_in h.words st b (accepted h st e) l)
 
-    pub mixed_block_told : {q : Audited} → Words st → MixedAudited st b m q → BlockAudited h.words st b q
+    pub mixed_block_told : {q : Option ℕ} → Words st → MixedAudited st b m q → BlockAudited h.words st b q
     mixed_block_told {q} u t =
-        let z = shown_mixed h.words st b (state_of h.words st b) r shown_as m p in
-        audits_as (subst (λ (x : MixedBlock). MixedAudited st b x q) z.1 t)
-        (λ o. (λ x. shown_sound h.words st b u x o, mixed_counted h.words st b u z.0 o.masks))
-        (λ o. sound_shown h.words st b u z.0 (o z.0))
+        audits_as (subst (λ (x : MixedBlock). MixedAudited st b x q) shown_of.1 t)
+        (λ o. (λ x. shown_sound h.words st b u x o, mixed_counted h.words st b u shown_of.0 o.masks))
+        (λ o. sound_shown h.words st b u shown_of.0 (o shown_of.0))
 
 -- ---- the whole population
 
@@ -154,15 +129,15 @@ reach_all W s b h = let e : reach W b ≡ 64 * W = omega arith in ap (count s 0)
 -- ---- the entry
 
 module _ (h : RangeBitset) (st : List ℕ) where
-  pub audit_declined : (k : ℕ) → k ≡ storage_refusal h (length st) → (k ≡ 0 → ⊥) → AuditEnsures h st (tested.Refused k)
-  audit_declined k e z = record { refuses = e; tells = λ p. absurd (z (e ∙ p)) }
+  pub audit_declined : (k : Refusal) → number_of k ≡ storage_refusal h (length st) → AuditEnsures h st (Err k)
+  audit_declined k e = record { refuses = e; tells = λ p. absurd (number_some k (e ∙ p)) }
 
   -- an accepted audit tells whether head and storage are sound
-  audit_told : (b : Bool) → storage_refusal h (length st) ≡ 0 → Tells b (Sound h st) → AuditEnsures h st (tested.Is b)
+  audit_told : (b : Bool) → storage_refusal h (length st) ≡ 0 → Tells b (Sound h st) → AuditEnsures h st (Ok b)
   audit_told true e t = record { refuses = sym e; tells = λ p. inl (refl, t.yes refl) }
   audit_told false e t = record { refuses = sym e; tells = λ p. inr (refl, t.no refl) }
 
-  pub audit_fresh : storage_refusal h (length st) ≡ 0 → h.allocated ≡ false → AuditEnsures h st (tested.Is (eqb h.len 0))
+  pub audit_fresh : storage_refusal h (length st) ≡ 0 → h.allocated ≡ false → AuditEnsures h st (Ok (eqb h.len 0))
   audit_fresh e f =
       audit_told _ e
       (told_as (told_eq h.len 0)
@@ -174,20 +149,17 @@ module _ (h : RangeBitset) (st : List ℕ) where
       })
       (λ o. o.unbegun f))
 
-  module _ (e : storage_refusal h (length st) ≡ 0) (f : h.allocated ≡ true) (r : Audited)
-      (t : StorageAudited h.words st r) where
-    pub audit_sound : (n : ℕ) → r ≡ audited.Sound n → AuditEnsures h st (tested.Is (eqb h.len n))
-    audit_sound n p =
-        let s = t.yes n p in
-        audit_told _ e
-        (told_as (told_eq h.len n)
-        (λ d.
-        record {
-          unbegun = λ g. absurd (true≢false (sym f ∙ g));
-          storage = λ g. s.0;
-          whole = λ g. d ∙ s.1;
-        })
-        (λ o. o.whole f ∙ sym s.1))
-
-    pub audit_unsound : r ≡ audited.Unsound → AuditEnsures h st (tested.Is false)
-    audit_unsound p = audit_told false e (told_not (λ o. t.no p (o.storage f)))
+  -- the answer is whether what the storage tells is the head's population
+  pub audit_begun : storage_refusal h (length st) ≡ 0 → h.allocated ≡ true → (r : Option ℕ) → StorageAudited h.words st r
+      → (b : Bool) → Tells b (r ≡ Some h.len) → AuditEnsures h st (Ok b)
+  audit_begun e f r t b q =
+      audit_told b e
+      (told_as q
+      (λ p.
+      let s = t.yes h.len p in
+      record { unbegun = λ g. absurd (true≢false (sym f ∙ g)); storage = λ g. s.0; whole = λ g. s.1 })
+      (λ o. told r t o))
+    where
+      told : (r : Option ℕ) → StorageAudited h.words st r → Sound h st → r ≡ Some h.len
+      told (Some n) t o = ap (λ (x : ℕ). Some x) ((t.yes n refl).1 ∙ sym (o.whole f))
+      told None t o = absurd (t.no refl (o.storage f))

@@ -1,6 +1,6 @@
 -- Contracts of the audit's inner functions. No caller sees them, and nothing here need be believed: the promise (Entry) speaks
 -- of none of it. Assumes nothing.
-use Rattle.std.specs.Prelude.{◌≡◌, Bool, true, false, List, ℕ, ◌+◌, ◌*◌, ◌-◌, ◌<◌, length, get_or, count_ones}
+use Rattle.std.specs.Prelude.{◌≡◌, Bool, true, false, List, ℕ, ◌+◌, ◌*◌, ◌-◌, ◌<◌, length, get_or, count_ones, Option, Some, None}
 use Rattle.std.specs.Int.Bits.{bit_and}
 use Rattle.positions.specs.Positions.{count, sum_over}
 use Rattle.bits.specs.Bit.{bit}
@@ -9,8 +9,6 @@ use Rattle.range_bitset.specs.Read.{ALL, state_of}
 use Rattle.range_bitset.specs.Represents.{block_count}
 use Rattle.range_bitset.specs.declared.MixedBlock.{MixedBlock}
 use Rattle.range_bitset.specs.declared.State.TheVariants.{Mixed}
-use Rattle.audit.specs.declared.Audited.{Audited}
-use Rattle.audit.specs.declared.Audited.TheVariants as audited
 use Rattle.audit.specs.Sound.{plain, SoundBlock, SoundStorage}
 
 -- r tells whether P holds
@@ -19,9 +17,9 @@ pub record Tells (r : Bool) (P : Type 0) : Type 0 where
   pub no : r ≡ false → P → ⊥
 
 -- r tells whether P holds and, if so, how many positions there are: n
-pub record Audits (P : Type 0) (n : ℕ) (r : Audited) : Type 0 where
-  pub yes : (k : ℕ) → r ≡ audited.Sound k → P × (k ≡ n)
-  pub no : r ≡ audited.Unsound → P → ⊥
+pub record Audits (P : Type 0) (n : ℕ) (r : Option ℕ) : Type 0 where
+  pub yes : (k : ℕ) → r ≡ Some k → P × (k ≡ n)
+  pub no : r ≡ None → P → ⊥
 
 -- the nonzero and the full mask of the words or blocks `valid`: no bit past those, and full lies within nonzero
 pub record SoundMasks (nonzero full valid : ℕ) : Type 0 where
@@ -63,17 +61,17 @@ SoundBlocks W st n = (b : ℕ) → b < n → SoundAt W st b
 
 -- ---- the answers on a block's stored words, on a mixed block, on any block, on all blocks, and on the storage
 
-abbrev pub WordsAudited : List ℕ → ℕ → ℕ → ℕ → Audited → Type 0
+abbrev pub WordsAudited : List ℕ → ℕ → ℕ → ℕ → Option ℕ → Type 0
 WordsAudited st b m known r = Audits (SoundWords st b m) (known + stored_population st b m) r
 
-abbrev pub MixedAudited : List ℕ → ℕ → MixedBlock → Audited → Type 0
+abbrev pub MixedAudited : List ℕ → ℕ → MixedBlock → Option ℕ → Type 0
 MixedAudited st b m r = Audits (SoundMixed st b m) (mixed_population st b m) r
 
-abbrev pub BlockAudited : ℕ → List ℕ → ℕ → Audited → Type 0
+abbrev pub BlockAudited : ℕ → List ℕ → ℕ → Option ℕ → Type 0
 BlockAudited W st b r = Audits (SoundAt W st b) (block_count W (plain W st) b) r
 
-abbrev pub BlocksAudited : ℕ → List ℕ → Audited → Type 0
+abbrev pub BlocksAudited : ℕ → List ℕ → Option ℕ → Type 0
 BlocksAudited W st r = Audits (SoundBlocks W st (blocks W)) (count (plain W st) 0 (64 * W)) r
 
-abbrev pub StorageAudited : ℕ → List ℕ → Audited → Type 0
+abbrev pub StorageAudited : ℕ → List ℕ → Option ℕ → Type 0
 StorageAudited W st r = Audits (SoundStorage W st) (count (plain W st) 0 (64 * W)) r

@@ -10,14 +10,9 @@ ghost use Rattle.range_bitset.specs.Answers.{storage_refusal};
 ghost use Rattle.audit.specs.Entry.{AuditEnsures};
 ghost use Rattle.audit.specs.Inner.{Tells, SoundMasks, InWords, WordsAudited, MixedAudited, BlockAudited, BlocksAudited, StorageAudited};
 
-use range_bitset::{ALL, MixedBlock, RangeBitset, ShownBlock, ShownTops, Tested};
-
-// Whether the rules are met and, if so, how many positions there are.
-#[derive(Clone, Copy)]
-enum Audited {
-    Sound(u32),
-    Unsound,
-}
+use answers::Refusal;
+use bits::walk::Ones;
+use range_bitset::{ALL, Block, MixedBlock, RangeBitset};
 
 // Whether every bit of `part` is one of `whole`.
 fn lies_within(part: u64, whole: u64) -> bool
@@ -30,119 +25,89 @@ fn lies_within(part: u64, whole: u64) -> bool
 fn masks_sound(nonzero: u64, full: u64, valid: u64) -> bool
     ensures { Tells result (SoundMasks nonzero full valid) }
 {
-    if !lies_within(nonzero, valid) {
-        return false;
-    }
-    lies_within(full, nonzero)
+    lies_within(nonzero, valid) && lies_within(full, nonzero)
 }
 
+// Of what follows each answers how many positions there are, where the rules are met, and else none.
+
 // The data words `explicit` of `block`, which may be neither zero nor all ones; their positions are added to `known`.
-fn stored_words_audit(storage: &[u64], block: usize, explicit: u64, known: u32) -> Audited
+fn stored_words_audit(storage: &[u64], block: usize, explicit: u64, known: u32) -> Option<u32>
     requires { (block < 64) × InWords storage.now block explicit × (known ≤ 4096) }
     ensures { WordsAudited storage.now block explicit known result }
 {
-    let mut explicit = explicit;
     let mut population = known;
-    while explicit != 0 {
-        let word = storage[64 * block + u64::trailing_zeros(explicit) as usize];
-        if word == 0 {
-            return Audited::Unsound;
+    for place in Ones(explicit) {
+        let word = storage[64 * block + place];
+        if word == 0 || word == ALL {
+            return None;
         }
-        if word == ALL {
-            return Audited::Unsound;
-        }
-        population += u64::count_ones(word);
-        explicit = explicit & (explicit - 1);
+        population += word.count_ones();
     }
-    Audited::Sound(population)
+    Some(population)
 }
 
 // A `Mixed` block. Its full words are counted by their mask, so only the words that are looked at are read.
-fn mixed_block_audit(storage: &[u64], block: usize, mixed: MixedBlock) -> Audited
+fn mixed_block_audit(storage: &[u64], block: usize, mixed: MixedBlock) -> Option<u32>
     requires { (block < 64) × InWords storage.now block mixed.valid }
     ensures { MixedAudited storage.now block mixed result }
 {
     let nonzero = mixed.nonzero;
     let full = mixed.full;
-    if !masks_sound(nonzero, full, mixed.valid) {
-        return Audited::Unsound;
+    if !masks_sound(nonzero, full, mixed.valid) || nonzero == 0 || full == mixed.valid {
+        return None;
     }
-    if nonzero == 0 {
-        return Audited::Unsound;
-    }
-    if full == mixed.valid {
-        return Audited::Unsound;
-    }
-    let known = u64::count_ones(full) * 64;
-    let Audited::Sound(population) = stored_words_audit(storage, block, nonzero & !full, known)
-    else {
-        return Audited::Unsound;
-    };
+    let known = full.count_ones() * 64;
+    let population = stored_words_audit(storage, block, nonzero & !full, known)?;
     if mixed.population != population as u64 {
-        return Audited::Unsound;
+        return None;
     }
-    Audited::Sound(population)
+    Some(population)
 }
 
 // The rules ask nothing of a block that is all clear or all set.
-fn block_audit(head: RangeBitset, storage: &[u64], block: usize) -> Audited
+fn block_audit(head: RangeBitset, storage: &[u64], block: usize) -> Option<u32>
     requires { (storage_refusal head (length storage.now) ≡ 0) × (block < blocks head.words) }
     ensures { BlockAudited head.words storage.now block result }
 {
     match head.block_of(storage, 4096 * block) {
-        ShownBlock::Empty => Audited::Sound(0),
-        ShownBlock::Full(size) => Audited::Sound(size),
-        ShownBlock::Mixed(mixed) => mixed_block_audit(storage, block, mixed),
-        ShownBlock::Refused(_) => Audited::Unsound,
+        Ok(Block::Empty) => Some(0),
+        Ok(Block::Full(size)) => Some(size),
+        Ok(Block::Mixed(mixed)) => mixed_block_audit(storage, block, mixed),
+        Err(_) => None,
     }
 }
 
-fn blocks_audit(head: RangeBitset, storage: &[u64]) -> Audited
+fn blocks_audit(head: RangeBitset, storage: &[u64]) -> Option<u32>
     requires { storage_refusal head (length storage.now) ≡ 0 }
     ensures { BlocksAudited head.words storage.now result }
 {
-    let capacity = 64 * head.words as usize;
-    let mut block = 0;
     let mut population = 0u32;
-    while 4096 * block < capacity {
-        let Audited::Sound(more) = block_audit(head, storage, block) else {
-            return Audited::Unsound;
-        };
-        population += more;
-        block += 1;
+    for block in 0..(head.words as usize).div_ceil(64) {
+        population += block_audit(head, storage, block)?;
     }
-    Audited::Sound(population)
+    Some(population)
 }
 
-fn storage_audit(head: RangeBitset, storage: &[u64]) -> Audited
+fn storage_audit(head: RangeBitset, storage: &[u64]) -> Option<u32>
     requires { storage_refusal head (length storage.now) ≡ 0 }
     ensures { StorageAudited head.words storage.now result }
 {
-    match head.top_masks(storage) {
-        ShownTops::Tops(tops) => {
-            if !masks_sound(tops.nonzero, tops.full, tops.valid) {
-                return Audited::Unsound;
-            }
-            blocks_audit(head, storage)
-        }
-        ShownTops::Refused(_) => Audited::Unsound,
+    let Ok(tops) = head.top_masks(storage) else {
+        return None;
+    };
+    if !masks_sound(tops.nonzero, tops.full, tops.valid) {
+        return None;
     }
+    blocks_audit(head, storage)
 }
 
 // Whether storage and head are sound.
-pub fn audit(head: RangeBitset, storage: &[u64]) -> Tested
+pub fn audit(head: RangeBitset, storage: &[u64]) -> Result<bool, Refusal>
     ensures { AuditEnsures head storage.now result }
 {
-    let refused = RangeBitset::refusal(head, storage.len());
-    if refused != 0 {
-        return Tested::Refused(refused);
+    head.check_storage(storage.len())?;
+    if !head.allocated {
+        return Ok(head.len == 0);
     }
-    let allocated = head.allocated;
-    if !allocated {
-        return Tested::Is(head.len == 0);
-    }
-    match storage_audit(head, storage) {
-        Audited::Sound(population) => Tested::Is(head.len == population),
-        Audited::Unsound => Tested::Is(false),
-    }
+    Ok(storage_audit(head, storage) == Some(head.len))
 }

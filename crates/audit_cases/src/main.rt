@@ -7,294 +7,174 @@
 // stale; the population is 67.
 #![tactic(auto)]
 
-use command_lines::Answer;
-use range_bitset::{RangeBitset, Tested};
+use range_bitset::{ALL, RangeBitset};
 use std::io;
-use std::io::Write;
 
-fn print_answer(out: &mut impl Write, answer: Tested) -> io::Result<()> {
-    match answer {
-        Tested::Is(sound) => {
-            if sound {
-                writeln!(out, "yes")
-            } else {
-                writeln!(out, "no")
-            }
-        }
-        Tested::Refused(k) => {
-            say::print(out, Answer::Refused(k)).1?;
-            Ok(())
-        }
+const SOUND: [u64; 7] = [11, 5, 3, 2, 67, 1, 0];
+
+// A case of 2 words whose flag is set: its name, the head's population, and the storage.
+type Case = (&'static str, u32, &'static [u64]);
+
+const STALE_NUMBERS: [Case; 5] = [
+    ("sound", 67, &SOUND),
+    (
+        "a word under a full mark is stale",
+        67,
+        &[11, 0, 3, 2, 67, 1, 0],
+    ),
+    ("all set", 128, &[1, 2, 3, 4, 5, 1, 1]),
+    ("all clear", 0, &[1, 2, 3, 4, 5, 0, 0]),
+    (
+        "a number past those needed",
+        67,
+        &[11, 5, 3, 2, 67, 1, 0, 9],
+    ),
+];
+
+const TOP_MASKS: [Case; 4] = [
+    ("a top nonzero bit at B", 67, &[11, 5, 3, 2, 67, 3, 0]),
+    (
+        "the last top nonzero bit",
+        67,
+        &[11, 5, 3, 2, 67, 1 << 63 | 1, 0],
+    ),
+    ("a top full bit at B", 67, &[11, 5, 3, 2, 67, 1, 2]),
+    ("top full outside top nonzero", 128, &[1, 2, 3, 4, 5, 0, 1]),
+];
+
+const BLOCK_MASKS: [Case; 5] = [
+    ("a nonzero bit past the words", 67, &[11, 5, 7, 2, 67, 1, 0]),
+    ("a full bit past the words", 67, &[11, 5, 3, 6, 67, 1, 0]),
+    ("full outside nonzero", 67, &[11, 5, 1, 2, 67, 1, 0]),
+    ("a mixed block with no word", 0, &[11, 5, 0, 0, 0, 1, 0]),
+    (
+        "a mixed block with all words full",
+        128,
+        &[11, 5, 3, 3, 128, 1, 0],
+    ),
+];
+
+const STORED_WORDS: [Case; 3] = [
+    ("a stored word of one position", 65, &[1, 5, 3, 2, 65, 1, 0]),
+    ("a stored word that is 0", 64, &[0, 5, 3, 2, 64, 1, 0]),
+    (
+        "a stored word that is all ones",
+        128,
+        &[ALL, 5, 3, 2, 128, 1, 0],
+    ),
+];
+
+// Word 1 is stored too, or is clear, so that its number is stale.
+const SECOND_WORDS: [Case; 5] = [
+    ("two stored words", 5, &[11, 5, 3, 0, 5, 1, 0]),
+    ("a second stored word that is 0", 3, &[11, 0, 3, 0, 3, 1, 0]),
+    (
+        "a second stored word that is all ones",
+        67,
+        &[11, ALL, 3, 0, 67, 1, 0],
+    ),
+    (
+        "a word outside the nonzero mask is stale",
+        3,
+        &[11, 5, 1, 0, 3, 1, 0],
+    ),
+    (
+        "a stale word in the populations",
+        5,
+        &[11, 5, 1, 0, 5, 1, 0],
+    ),
+];
+
+const POPULATIONS: [Case; 4] = [
+    (
+        "a block's population one less",
+        67,
+        &[11, 5, 3, 2, 66, 1, 0],
+    ),
+    (
+        "a block's population one more",
+        67,
+        &[11, 5, 3, 2, 68, 1, 0],
+    ),
+    ("the head's population one less", 66, &SOUND),
+    ("the head's population one more", 68, &SOUND),
+];
+
+// Prints what the audit says of a head and its storage.
+fn say_audit(rt: &impl Print, name: &str, head: RangeBitset, storage: &[u64]) -> io::Result<()> {
+    match audit::audit(head, storage) {
+        Ok(true) => println!(rt; "{name}: yes"),
+        Ok(false) => println!(rt; "{name}: no"),
+        Err(refusal) => println!(rt; "{name}: refused {}", u8::from(refusal)),
     }
 }
 
-// The audit of a head.
-fn audited(
-    out: &mut impl Write,
-    name: &str,
-    words: u32,
-    len: u32,
-    allocated: bool,
-    storage: &[u64],
-) -> io::Result<()> {
-    let head = RangeBitset {
+// A head whose flag is set.
+fn begun(words: u32, len: u32) -> RangeBitset {
+    RangeBitset {
         words,
         len,
-        allocated,
+        allocated: true,
+    }
+}
+
+fn say_cases(rt: &impl Print, cases: &[Case]) -> io::Result<()> {
+    for &(name, len, storage) in cases {
+        say_audit(rt, name, begun(2, len), storage)?;
+    }
+    Ok(())
+}
+
+fn flag_clear(rt: &impl Print) -> io::Result<()> {
+    let fresh = RangeBitset {
+        words: 2,
+        ..RangeBitset::default()
     };
-    write!(out, "{name}: ")?;
-    print_answer(out, audit::audit(head, storage))
-}
-
-// The audit of a head whose flag is set, as in most cases.
-fn begun(
-    out: &mut impl Write,
-    name: &str,
-    words: u32,
-    len: u32,
-    storage: &[u64],
-) -> io::Result<()> {
-    audited(out, name, words, len, true, storage)
-}
-
-fn stale_numbers(out: &mut impl Write) -> io::Result<()> {
-    begun(out, "sound", 2, 67, &[11, 5, 3, 2, 67, 1, 0])?;
-    begun(
-        out,
-        "a word under a full mark is stale",
-        2,
-        67,
-        &[11, 0, 3, 2, 67, 1, 0],
-    )?;
-    begun(out, "all set", 2, 128, &[1, 2, 3, 4, 5, 1, 1])?;
-    begun(out, "all clear", 2, 0, &[1, 2, 3, 4, 5, 0, 0])?;
-    begun(
-        out,
-        "a number past those needed",
-        2,
-        67,
-        &[11, 5, 3, 2, 67, 1, 0, 9],
-    )?;
-    Ok(())
-}
-
-fn top_masks(out: &mut impl Write) -> io::Result<()> {
-    begun(
-        out,
-        "a top nonzero bit at B",
-        2,
-        67,
-        &[11, 5, 3, 2, 67, 3, 0],
-    )?;
-    begun(
-        out,
-        "the last top nonzero bit",
-        2,
-        67,
-        &[11, 5, 3, 2, 67, 0x8000000000000001, 0],
-    )?;
-    begun(out, "a top full bit at B", 2, 67, &[11, 5, 3, 2, 67, 1, 2])?;
-    begun(
-        out,
-        "top full outside top nonzero",
-        2,
-        128,
-        &[1, 2, 3, 4, 5, 0, 1],
-    )?;
-    Ok(())
-}
-
-fn block_masks(out: &mut impl Write) -> io::Result<()> {
-    begun(
-        out,
-        "a nonzero bit past the words",
-        2,
-        67,
-        &[11, 5, 7, 2, 67, 1, 0],
-    )?;
-    begun(
-        out,
-        "a full bit past the words",
-        2,
-        67,
-        &[11, 5, 3, 6, 67, 1, 0],
-    )?;
-    begun(out, "full outside nonzero", 2, 67, &[11, 5, 1, 2, 67, 1, 0])?;
-    begun(
-        out,
-        "a mixed block with no word",
-        2,
-        0,
-        &[11, 5, 0, 0, 0, 1, 0],
-    )?;
-    begun(
-        out,
-        "a mixed block with all words full",
-        2,
-        128,
-        &[11, 5, 3, 3, 128, 1, 0],
-    )?;
-    Ok(())
-}
-
-fn stored_words(out: &mut impl Write) -> io::Result<()> {
-    begun(
-        out,
-        "a stored word of one position",
-        2,
-        65,
-        &[1, 5, 3, 2, 65, 1, 0],
-    )?;
-    begun(
-        out,
-        "a stored word that is 0",
-        2,
-        64,
-        &[0, 5, 3, 2, 64, 1, 0],
-    )?;
-    begun(
-        out,
-        "a stored word that is all ones",
-        2,
-        128,
-        &[0xffffffffffffffff, 5, 3, 2, 128, 1, 0],
-    )?;
-    Ok(())
-}
-
-// Word 1 is stored too, or is clear, so that its number is stale.
-fn second_words(out: &mut impl Write) -> io::Result<()> {
-    begun(out, "two stored words", 2, 5, &[11, 5, 3, 0, 5, 1, 0])?;
-    begun(
-        out,
-        "a second stored word that is 0",
-        2,
-        3,
-        &[11, 0, 3, 0, 3, 1, 0],
-    )?;
-    begun(
-        out,
-        "a second stored word that is all ones",
-        2,
-        67,
-        &[11, 0xffffffffffffffff, 3, 0, 67, 1, 0],
-    )?;
-    begun(
-        out,
-        "a word outside the nonzero mask is stale",
-        2,
-        3,
-        &[11, 5, 1, 0, 3, 1, 0],
-    )?;
-    begun(
-        out,
-        "a stale word in the populations",
-        2,
-        5,
-        &[11, 5, 1, 0, 5, 1, 0],
-    )?;
-    Ok(())
-}
-
-fn populations(out: &mut impl Write) -> io::Result<()> {
-    begun(
-        out,
-        "a block's population one less",
-        2,
-        67,
-        &[11, 5, 3, 2, 66, 1, 0],
-    )?;
-    begun(
-        out,
-        "a block's population one more",
-        2,
-        67,
-        &[11, 5, 3, 2, 68, 1, 0],
-    )?;
-    begun(
-        out,
-        "the head's population one less",
-        2,
-        66,
-        &[11, 5, 3, 2, 67, 1, 0],
-    )?;
-    begun(
-        out,
-        "the head's population one more",
-        2,
-        68,
-        &[11, 5, 3, 2, 67, 1, 0],
-    )?;
-    audited(
-        out,
-        "flag clear, population 0",
-        2,
-        0,
-        false,
-        &[11, 5, 3, 2, 67, 1, 0],
-    )?;
-    audited(
-        out,
-        "flag clear, population 1",
-        2,
-        1,
-        false,
-        &[11, 5, 3, 2, 67, 1, 0],
-    )?;
-    Ok(())
+    say_audit(rt, "flag clear, population 0", fresh, &SOUND)?;
+    let one = RangeBitset { len: 1, ..fresh };
+    say_audit(rt, "flag clear, population 1", one, &SOUND)
 }
 
 // 128 words: block 0 is full, block 1 has position 4,096 alone.
-fn two_blocks(out: &mut impl Write) -> io::Result<()> {
-    let mut storage = [0u64; 136];
+fn two_blocks(rt: &impl Print) -> io::Result<()> {
+    let mut storage = [0; 136];
     storage[64] = 1;
     storage[129] = 1;
     storage[133] = 1;
     storage[134] = 3;
     storage[135] = 1;
-    begun(out, "two blocks", 128, 4097, &storage)?;
+    say_audit(rt, "two blocks", begun(128, 4097), &storage)?;
     storage[133] = 2;
-    begun(
-        out,
+    say_audit(
+        rt,
         "two blocks, the second's population",
-        128,
-        4097,
+        begun(128, 4097),
         &storage,
     )?;
     storage[133] = 1;
-    begun(
-        out,
+    say_audit(
+        rt,
         "two blocks, the head's population",
-        128,
-        4096,
+        begun(128, 4096),
         &storage,
-    )?;
-    Ok(())
+    )
 }
 
-fn refusals(out: &mut impl Write) -> io::Result<()> {
-    begun(out, "3 words", 3, 67, &[11, 5, 3, 2, 67, 1, 0])?;
-    begun(
-        out,
-        "population above the capacity",
-        2,
-        129,
-        &[11, 5, 3, 2, 67, 1, 0],
-    )?;
-    begun(out, "storage one short", 2, 67, &[11, 5, 3, 2, 67, 1])?;
-    begun(out, "both, the head first", 3, 67, &[11])?;
-    Ok(())
+fn refusals(rt: &impl Print) -> io::Result<()> {
+    say_audit(rt, "3 words", begun(3, 67), &SOUND)?;
+    say_audit(rt, "population above the capacity", begun(2, 129), &SOUND)?;
+    say_audit(rt, "storage one short", begun(2, 67), &SOUND[..6])?;
+    say_audit(rt, "both, the head first", begun(3, 67), &[11])
 }
 
 fn main(rt: HostRuntime) -> io::Result<()> {
-    let out = &mut rt.stdout();
-    stale_numbers(out)?;
-    top_masks(out)?;
-    block_masks(out)?;
-    stored_words(out)?;
-    second_words(out)?;
-    populations(out)?;
-    two_blocks(out)?;
-    refusals(out)?;
-    Ok(())
+    say_cases(&rt, &STALE_NUMBERS)?;
+    say_cases(&rt, &TOP_MASKS)?;
+    say_cases(&rt, &BLOCK_MASKS)?;
+    say_cases(&rt, &STORED_WORDS)?;
+    say_cases(&rt, &SECOND_WORDS)?;
+    say_cases(&rt, &POPULATIONS)?;
+    flag_clear(&rt)?;
+    two_blocks(&rt)?;
+    refusals(&rt)
 }

@@ -4,10 +4,10 @@
 use Rattle.capi.proofs.Kit.{◌≡◌, refl, ap, sym, ◌∙◌, ◌≢◌, Bool, true, false, cond, List, ℕ, length}
 use Rattle.positions.specs.Positions.{Positions}
 use Rattle.positions.specs.Replies.{Reply, number, refusal, refused}
-use Rattle.range_bitset.specs.Answers.{of_counted, good_head, head_refusal, storage_refusal, range_refusal, point_refusal}
+use Rattle.answers.specs.Refusals.{answer_in}
+use Rattle.range_bitset.specs.Answers.{Counted, of_counted, good_head, head_refusal, storage_refusal, range_refusal, point_refusal}
 use Rattle.range_bitset.specs.Entries.{Changes, of_head}
 use Rattle.range_bitset.specs.declared.RangeBitset.{RangeBitset}
-use Rattle.range_bitset.specs.declared.Counted.{Counted}
 use Rattle.capi_told.specs.declared.KladoSet.{KladoSet}
 use Rattle.capi_told.specs.declared.KladoSetAnswer.{KladoSetAnswer}
 use Rattle.capi_told.specs.declared.KladoAnswer.{KladoAnswer}
@@ -78,14 +78,14 @@ declines k h st f g b i r h' st' p n q z c w =
 pub assign_declines : (h : KladoSet) → (st : List ℕ) → (a e : ℕ) → (v : Bool) → (c : KladoSetAnswer) → (st' : List ℕ)
     → AssignTold h st a e v c st' → Declines (range_refusal (set_of h) (length st) e) h st c st'
 assign_declines h st a e v c st' t =
-    declines _ h st _ _ _ _ _ _ st' t.promised _ (counted_refused t.answer.answer) (counted_bare t.answer.answer) c t.told
+    declines _ h st _ _ _ _ _ _ st' t.promised _ (counted_refused (answer_in t.answer)) (counted_bare (answer_in t.answer)) c t.told
 
 pub set_declines : (h : KladoSet) → (st : List ℕ) → (i : ℕ) → (v : Bool) → (c : KladoSetAnswer) → (st' : List ℕ)
     → SetTold h st i v c st' → Declines (point_refusal (set_of h) (length st) i) h st c st'
 set_declines h st i v c st' t =
-    declines _ h st _ _ _ _ _ _ st' t.promised _ (tested_refused t.answer.answer) (tested_bare t.answer.answer) c t.told
+    declines _ h st _ _ _ _ _ _ st' t.promised _ (tested_refused (answer_in t.answer)) (tested_bare (answer_in t.answer)) c t.told
 
 pub clear_declines : (h : KladoSet) → (st : List ℕ) → (c : KladoSetAnswer) → (st' : List ℕ) → ClearTold h st c st'
     → Declines (storage_refusal (set_of h) (length st)) h st c st'
 clear_declines h st c st' t =
-    declines _ h st _ _ _ _ _ _ st' t.promised _ (counted_refused t.answer.answer) (counted_bare t.answer.answer) c t.told
+    declines _ h st _ _ _ _ _ _ st' t.promised _ (counted_refused (answer_in t.answer)) (counted_bare (answer_in t.answer)) c t.told

@@ -1,4 +1,3 @@
 -- The laws of the exports for C, and what the header says as theorems. Assumes nothing.
 mod Kit
-pub mod Telling
 pub mod Header

@@ -3,11 +3,7 @@
 use Rattle.std.specs.Prelude.{Bool, List, ℕ}
 use Rattle.range_bitset.specs.Entries.{CapacityEnsures, LenEnsures, GetEnsures, CountEnsures, NextEnsures, SelectEnsures, AssignEnsures, SetEnsures, ClearEnsures}
 use Rattle.audit.specs.Entry.{AuditEnsures}
-use Rattle.range_bitset.specs.declared.Counted.{Counted}
-use Rattle.range_bitset.specs.declared.Tested.{Tested}
-use Rattle.range_bitset.specs.declared.Found.{Found}
-use Rattle.range_bitset.specs.declared.Assigned.{Assigned}
-use Rattle.range_bitset.specs.declared.Updated.{Updated}
+use Rattle.range_bitset.specs.Answers.{Counted, Tested, Found, Assigned, Updated}
 use Rattle.capi_told.specs.declared.KladoSet.{KladoSet}
 use Rattle.capi_told.specs.declared.KladoSetAnswer.{KladoSetAnswer}
 use Rattle.capi_told.specs.declared.KladoAnswer.{KladoAnswer}
@@ -33,13 +29,13 @@ abbrev pub SelectTold : KladoSet → List ℕ → ℕ → KladoFound → Type 0
 SelectTold h st n c = Told Found KladoFound (SelectEnsures (set_of h) st n) told_found c
 
 abbrev pub AssignTold : KladoSet → List ℕ → ℕ → ℕ → Bool → KladoSetAnswer → List ℕ → Type 0
-AssignTold h st a e v c st' = Told Assigned KladoSetAnswer (λ r. AssignEnsures (set_of h) st a e v r st') told_assigned c
+AssignTold h st a e v c st' = Told Assigned KladoSetAnswer (λ r. AssignEnsures (set_of h) st a e v r st') (told_assigned h) c
 
 abbrev pub SetTold : KladoSet → List ℕ → ℕ → Bool → KladoSetAnswer → List ℕ → Type 0
-SetTold h st i v c st' = Told Updated KladoSetAnswer (λ r. SetEnsures (set_of h) st i v r st') told_updated c
+SetTold h st i v c st' = Told Updated KladoSetAnswer (λ r. SetEnsures (set_of h) st i v r st') (told_updated h) c
 
 abbrev pub ClearTold : KladoSet → List ℕ → KladoSetAnswer → List ℕ → Type 0
-ClearTold h st c st' = Told Assigned KladoSetAnswer (λ r. ClearEnsures (set_of h) st r st') told_assigned c
+ClearTold h st c st' = Told Assigned KladoSetAnswer (λ r. ClearEnsures (set_of h) st r st') (told_assigned h) c
 
 abbrev pub AuditTold : KladoSet → List ℕ → KladoAnswer → Type 0
 AuditTold h st c = Told Tested KladoAnswer (AuditEnsures (set_of h) st) told_tested c

@@ -11,38 +11,36 @@ ghost use Rattle.range_bitset.specs.Entries.{new_of};
 ghost use Rattle.capi_told.specs.Told.{told_made};
 ghost use Rattle.capi.specs.Exports.{CapacityTold, LenTold, GetTold, SetTold, AssignTold, CountTold, NextTold, SelectTold, ClearTold, AuditTold};
 
-use capi_told::{
-    KladoAnswer, KladoFound, KladoSet, KladoSetAnswer, of_counted, of_found, of_made, of_tested,
-    set_of, with_head,
-};
+use answers::Changed;
+use capi_told::{KladoAnswer, KladoFound, KladoSet, KladoSetAnswer};
 use range_bitset::RangeBitset;
 
 #[unsafe(no_mangle)]
 pub extern "C" fn klado_set_new(capacity: usize) -> KladoSetAnswer
     ensures { result ≡ told_made (new_of capacity) }
 {
-    of_made(RangeBitset::new(capacity))
+    RangeBitset::new(capacity).into()
 }
 
 #[unsafe(no_mangle)]
 pub extern "C" fn klado_set_capacity(head: KladoSet) -> KladoAnswer
     ensures { CapacityTold head result }
 {
-    of_counted(set_of(head).capacity())
+    RangeBitset::from(head).capacity().into()
 }
 
 #[unsafe(no_mangle)]
 pub extern "C" fn klado_set_len(head: KladoSet) -> KladoAnswer
     ensures { LenTold head result }
 {
-    of_counted(set_of(head).len())
+    RangeBitset::from(head).len().into()
 }
 
 #[unsafe(no_mangle)]
 pub extern "C" fn klado_set_get(head: KladoSet, storage: &[u64], index: usize) -> KladoAnswer
     ensures { GetTold head storage.now index result }
 {
-    of_tested(set_of(head).get(storage, index))
+    RangeBitset::from(head).get(storage, index).into()
 }
 
 #[unsafe(no_mangle)]
@@ -54,11 +52,12 @@ pub extern "C" fn klado_set_set(
 ) -> KladoSetAnswer
     ensures { SetTold head storage.old index value result storage.new }
 {
-    let before = set_of(head);
-    let got = before.set(storage, index, value);
-    let answer = got.answer;
-    let after = got.head;
-    with_head(of_tested(answer), after)
+    let done = RangeBitset::from(head).set(storage, index, value);
+    let told = done.map(|changed| Changed {
+        answer: u32::from(changed.answer),
+        head: changed.head,
+    });
+    KladoSetAnswer::after(head, told)
 }
 
 #[unsafe(no_mangle)]
@@ -71,11 +70,8 @@ pub extern "C" fn klado_set_assign(
 ) -> KladoSetAnswer
     ensures { AssignTold head storage.old start end value result storage.new }
 {
-    let before = set_of(head);
-    let got = before.assign(storage, start, end, value);
-    let answer = got.answer;
-    let after = got.head;
-    with_head(of_counted(answer), after)
+    let done = RangeBitset::from(head).assign(storage, start, end, value);
+    KladoSetAnswer::after(head, done)
 }
 
 #[unsafe(no_mangle)]
@@ -87,7 +83,7 @@ pub extern "C" fn klado_set_count(
 ) -> KladoAnswer
     ensures { CountTold head storage.now start end result }
 {
-    of_counted(set_of(head).count(storage, start, end))
+    RangeBitset::from(head).count(storage, start, end).into()
 }
 
 #[unsafe(no_mangle)]
@@ -99,7 +95,7 @@ pub extern "C" fn klado_set_next_one(
 ) -> KladoFound
     ensures { NextTold true head storage.now start end result }
 {
-    of_found(set_of(head).next_one(storage, start, end))
+    RangeBitset::from(head).next_one(storage, start, end).into()
 }
 
 #[unsafe(no_mangle)]
@@ -111,30 +107,28 @@ pub extern "C" fn klado_set_next_zero(
 ) -> KladoFound
     ensures { NextTold false head storage.now start end result }
 {
-    of_found(set_of(head).next_zero(storage, start, end))
+    RangeBitset::from(head)
+        .next_zero(storage, start, end)
+        .into()
 }
 
 #[unsafe(no_mangle)]
 pub extern "C" fn klado_set_select(head: KladoSet, storage: &[u64], n: usize) -> KladoFound
     ensures { SelectTold head storage.now n result }
 {
-    of_found(set_of(head).select(storage, n))
+    RangeBitset::from(head).select(storage, n).into()
 }
 
 #[unsafe(no_mangle)]
 pub extern "C" fn klado_set_clear(head: KladoSet, storage: &mut [u64]) -> KladoSetAnswer
     ensures { ClearTold head storage.old result storage.new }
 {
-    let before = set_of(head);
-    let got = before.clear(storage);
-    let answer = got.answer;
-    let after = got.head;
-    with_head(of_counted(answer), after)
+    KladoSetAnswer::after(head, RangeBitset::from(head).clear(storage))
 }
 
 #[unsafe(no_mangle)]
 pub extern "C" fn klado_set_audit(head: KladoSet, storage: &[u64]) -> KladoAnswer
     ensures { AuditTold head storage.now result }
 {
-    of_tested(audit::audit(set_of(head), storage))
+    audit::audit(head.into(), storage).into()
 }

@@ -8,3 +8,4 @@ pub use mathlib.Core.List.{List, [], ◌∷◌}
 pub use mathlib.Core.Logic.{◌≢◌, ◌⊎◌, inl, inr}
 pub use mathlib.Core.Path.{◌∙◌, ◌≡◌, ap, refl, subst, sym}
 pub use native.Mathlib.Omega.{arith}
+pub use Rattle.std.specs.Prelude.{Err, Ok}

@@ -2,16 +2,15 @@
 -- number, the bad run's index, what a refused answer has beside it, that a refused call changes nothing, and what of the head
 -- holds in any case.
 -- Assumes nothing.
-use Rattle.capi_ledger.proofs.Kit.{◌≡◌, refl, sym, ap, ◌∙◌, ◌≢◌, ◌⊎◌, inl, inr, Bool, true, false, List, [], ◌∷◌, ℕ, ◌-◌, ◌≤◌, arith, eqb-true, eqb-false, eqb, length}
+use Rattle.capi_ledger.proofs.Kit.{Ok, Err, ◌≡◌, refl, sym, ap, ◌∙◌, ◌≢◌, ◌⊎◌, inl, inr, Bool, true, false, List, [], ◌∷◌, ℕ, ◌-◌, ◌≤◌, arith, eqb-true, eqb-false, eqb, length}
 use Rattle.positions.proofs.Replies.{accepted_refused}
 use Rattle.positions.specs.Replies.{Reply, numbers, refused_with, refusal, refused, Accepted}
 use Rattle.range_bitset.specs.Answers.{of_counted}
 use Rattle.ledger.specs.Machine.{Call, wipe}
 use Rattle.ledger.specs.Memory.{Memory, memory, call_refusal}
-use Rattle.ledger.specs.Entries.{CallEnsures, CalledEnsures, ranges, most_need, of_opened, open_reply}
-use Rattle.ledger.specs.declared.Called.{Called}
-use Rattle.ledger.specs.declared.Opened.{Opened}
-use Rattle.ledger.specs.declared.Opened.TheVariants as opened
+use Rattle.answers.specs.Refusals.{answer_in, head_after}
+use Rattle.ledger.specs.Entries.{Called, Opened, CallEnsures, CalledEnsures, ranges, most_need, of_opened, open_reply}
+use Rattle.ledger.specs.declared.NotOpened.TheVariants as why
 use Rattle.capi_ledger.specs.declared.KladoLedger.{KladoLedger}
 use Rattle.capi_ledger.specs.declared.KladoLedgerAnswer.{KladoLedgerAnswer}
 use Rattle.capi_ledger.specs.declared.KladoOpened.{KladoOpened}
@@ -22,15 +21,15 @@ use Rattle.capi_told.proofs.Numbers.{counted_refused, counted_bare}
 
 -- a refused answer has the head of zeros
 pub opened_bare : (a : Opened) → (told_opened a).refused ≢ 0 → (told_opened a).head ≡ (unopened 0 0).head
-opened_bare (opened.Head h) z = absurd (z refl)
-opened_bare (opened.Refused k) z = refl
-opened_bare (opened.BadRun i) z = refl
+opened_bare (Ok h) z = absurd (z refl)
+opened_bare (Err (why.Refused k)) z = refl
+opened_bare (Err (why.BadRun i)) z = refl
 
 -- an index comes with 8 alone
 pub opened_run : (a : Opened) → (told_opened a).refused ≢ 8 → (told_opened a).run ≡ 0
-opened_run (opened.Head h) z = refl
-opened_run (opened.Refused k) z = refl
-opened_run (opened.BadRun i) z = absurd (z refl)
+opened_run (Ok h) z = refl
+opened_run (Err (why.Refused k)) z = refl
+opened_run (Err (why.BadRun i)) z = absurd (z refl)
 
 -- the value beside a refusal, 0 where there is none
 abbrev pub beside : Reply → ℕ
@@ -39,14 +38,14 @@ beside (refused_with k []) = 0
 beside (refused_with k (i ∷ vs)) = i
 
 opened_number : (a : Opened) → (told_opened a).refused ≡ refused (of_opened a)
-opened_number (opened.Head h) = refl
-opened_number (opened.Refused k) = refl
-opened_number (opened.BadRun i) = refl
+opened_number (Ok h) = refl
+opened_number (Err (why.Refused k)) = refl
+opened_number (Err (why.BadRun i)) = refl
 
 opened_index : (a : Opened) → (told_opened a).run ≡ beside (of_opened a)
-opened_index (opened.Head h) = refl
-opened_index (opened.Refused k) = refl
-opened_index (opened.BadRun i) = refl
+opened_index (Ok h) = refl
+opened_index (Err (why.Refused k)) = refl
+opened_index (Err (why.BadRun i)) = refl
 
 -- open: both numbers, and a refused call leaves the storage
 pub record Unopened (file : List ℕ) (j : ℕ) (st journal : List ℕ) (c : KladoOpened) (st' : List ℕ) : Type 0 where
@@ -96,16 +95,16 @@ accepts k x r y p z = by (eqb (call_refusal k x) 0) refl
     by false e = absurd (eqb-false (call_refusal k x) 0 e (sym (ap refused (p.refuses (eqb-false (call_refusal k x) 0 e))) ∙ z))
 
 declines : (k : Call) → (h : KladoLedger) → (st j st' j' : List ℕ) → (r : Called) → CalledEnsures k (ledger_of h) st j st' j' r
-    → (c : KladoLedgerAnswer) → c ≡ told_called r → Declines (call_refusal k (memory (ledger_of h) st j)) (most_need k) h st j c st' j'
+    → (c : KladoLedgerAnswer) → c ≡ told_called h r → Declines (call_refusal k (memory (ledger_of h) st j)) (most_need k) h st j c st' j'
 declines k h st j st' j' r p c t =
-    let same : c.refused ≡ refused (of_counted r.answer) = ap (λ (x : KladoLedgerAnswer). x.refused) t ∙ counted_refused r.answer in
-    let kept : c.refused ≢ 0 → memory r.head st' j' ≡ memory (ledger_of h) st j = λ z. p.unchanged (λ e. z (same ∙ accepted_refused (of_counted r.answer) e)) in
+    let same : c.refused ≡ refused (of_counted (answer_in r)) = ap (λ (x : KladoLedgerAnswer). x.refused) t ∙ counted_refused (answer_in r) in
+    let kept : c.refused ≢ 0 → memory (head_after (ledger_of h) r) st' j' ≡ memory (ledger_of h) st j = λ z. p.unchanged (λ e. z (same ∙ accepted_refused (of_counted (answer_in r)) e)) in
     record {
       refusal = λ z. same ∙ ap refused (p.refuses z);
       only_6 = λ z. six _ _ _ same (p.only_6 z);
-      short_6 = λ z m. same ∙ accepted_refused (of_counted r.answer) (p.short_6 z m);
+      short_6 = λ z m. same ∙ accepted_refused (of_counted (answer_in r)) (p.short_6 z m);
       value = λ z. ap (λ (x : KladoLedgerAnswer). x.value) t
-          ∙ counted_bare r.answer (λ e. z (ap (λ (x : KladoLedgerAnswer). x.refused) t ∙ e));
+          ∙ counted_bare (answer_in r) (λ e. z (ap (λ (x : KladoLedgerAnswer). x.refused) t ∙ e));
       head = λ z. ap (λ (x : KladoLedgerAnswer). x.head) t ∙ ap (λ (x : Memory). ledger_head x.head) (kept z);
       storage = λ z. ap (λ (x : Memory). x.storage) (kept z);
       journal = λ z. ap (λ (x : Memory). x.journal) (kept z);

@@ -1,5 +1,4 @@
 -- The laws of the ledger's exports for C, and what the header says of them as theorems. Assumes nothing.
 mod Kit
-pub mod LedgerTelling
 pub mod LedgerHeader
 pub mod ListHeader

@@ -1,10 +1,9 @@
 -- What include/kladomyne.h says of klado_list_write on any memory, from the export's promise. Assumes nothing.
-use Rattle.capi_ledger.proofs.Kit.{◌≡◌, refl, ap, subst, sym, ◌≢◌, ◌⊎◌, inl, inr, List, ℕ, ◌+◌, ◌*◌, ◌≤◌, arith, length, drop}
+use Rattle.capi_ledger.proofs.Kit.{Ok, Err, ◌≡◌, refl, ap, subst, sym, ◌≢◌, ◌⊎◌, inl, inr, List, ℕ, ◌+◌, ◌*◌, ◌≤◌, arith, length, drop}
 use Rattle.positions.specs.Replies.{Reply, refusal, refused, Accepted}
 use Rattle.positions.proofs.Replies.{accepted_refused}
-use Rattle.range_bitset.specs.Answers.{storage_refusal}
-use Rattle.range_bitset.specs.declared.Counted.{Counted}
-use Rattle.range_bitset.specs.declared.Counted.TheVariants as counted
+use Rattle.answers.specs.Refusals.{number_of}
+use Rattle.range_bitset.specs.Answers.{Counted, storage_refusal}
 use Rattle.list_writer.specs.Entry.{write_refusal, WriteEnsures}
 use Rattle.capi_told.specs.declared.KladoSet.{KladoSet}
 use Rattle.capi_told.specs.declared.KladoAnswer.{KladoAnswer}
@@ -27,7 +26,7 @@ nine r (inl z) = inl (accepted_refused r z)
 nine r (inr e) = inr (ap refused e)
 
 of_answer : (h : KladoSet) (st file file' : List ℕ) (r : Counted) → WriteEnsures (set_of h) st file r file' → ListWritten h st file (told_counted r) file'
-of_answer h st file file' (counted.Count n) p =
+of_answer h st file file' (Ok n) p =
     record {
       refusal = λ z. ap refused (p.refuses z);
       only_9 = λ z. inl refl;
@@ -37,10 +36,10 @@ of_answer h st file file' (counted.Count n) p =
       inside = λ z. p.inside n refl;
       past = λ z. p.file_kept n refl;
     }
-of_answer h st file file' (counted.Refused k) p =
+of_answer h st file file' (Err k) p =
     record {
       refusal = λ z. ap refused (p.refuses z);
-      only_9 = λ z. nine (refusal k) (p.only_9 z);
+      only_9 = λ z. nine (refusal (number_of k)) (p.only_9 z);
       long_9 = λ z l. absurd (p.long_9 z l);
       value = λ z. refl;
       file_same = λ z. p.unchanged (λ y. y);

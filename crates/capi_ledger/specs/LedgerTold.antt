@@ -1,14 +1,14 @@
 -- C's numbers for the ledger's heads and answers, and the promise of each export: its answer is those numbers for an answer
 -- that the entry of ledger, or of list_writer, promises. Assumes nothing.
-use Rattle.std.specs.Prelude.{false, List, ℕ}
+use Rattle.std.specs.Prelude.{false, List, ℕ, Result, Ok, Err}
 use Rattle.ledger.specs.Machine.{Call, wipe}
-use Rattle.ledger.specs.Entries.{CalledEnsures, OpenEnsures}
-use Rattle.range_bitset.specs.declared.Counted.{Counted}
+use Rattle.answers.specs.Refusals.{number_of, answer_in, head_after}
+use Rattle.answers.specs.declared.Refusal.{Refusal}
+use Rattle.ledger.specs.Entries.{Called, CalledEnsures, Opened, OpenEnsures}
+use Rattle.range_bitset.specs.Answers.{Counted}
 use Rattle.list_writer.specs.Entry.{WriteEnsures}
 use Rattle.ledger.specs.declared.Ledger.{Ledger}
-use Rattle.ledger.specs.declared.Called.{Called}
-use Rattle.ledger.specs.declared.Opened.{Opened}
-use Rattle.ledger.specs.declared.Opened.TheVariants as opened
+use Rattle.ledger.specs.declared.NotOpened.TheVariants as why
 use Rattle.capi_ledger.specs.declared.KladoLedger.{KladoLedger}
 use Rattle.capi_ledger.specs.declared.KladoLedgerAnswer.{KladoLedgerAnswer}
 use Rattle.capi_told.specs.declared.KladoSet.{KladoSet}
@@ -35,29 +35,33 @@ unopened k i =
     }
 
 abbrev pub told_opened : Opened → KladoOpened
-told_opened (opened.Head h) = record { refused = 0; run = 0; head = ledger_head h }
-told_opened (opened.Refused k) = unopened k 0
-told_opened (opened.BadRun i) = unopened 8 i
+told_opened (Ok h) = record { refused = 0; run = 0; head = ledger_head h }
+told_opened (Err (why.Refused k)) = unopened (number_of k) 0
+told_opened (Err (why.BadRun i)) = unopened 8 i
+
+abbrev pub told_new : Result Ledger Refusal → KladoOpened
+told_new (Ok h) = told_opened (Ok h)
+told_new (Err k) = told_opened (Err (why.Refused k))
 
 -- an answer with the head after it
 abbrev pub with_ledger : KladoAnswer → KladoLedger → KladoLedgerAnswer
 with_ledger a h = record { refused = a.refused; value = a.value; head = h }
 
-abbrev pub told_called : Called → KladoLedgerAnswer
-told_called a = with_ledger (told_counted a.answer) (ledger_head a.head)
+abbrev pub told_called : KladoLedger → Called → KladoLedgerAnswer
+told_called h a = with_ledger (told_counted (answer_in a)) (ledger_head (head_after (ledger_of h) a))
 
--- ---- the exports: new's answer is `told_opened` of the ledger's `new_of`
+-- ---- the exports: new's answer is `told_new` of the ledger's `new_of`
 
 abbrev pub OpenTold : List ℕ → ℕ → List ℕ → List ℕ → KladoOpened → List ℕ → Type 0
 OpenTold file j st journal c st' = Told Opened KladoOpened (λ r. OpenEnsures file j st journal r st') told_opened c
 
 -- marking, clearing and take-back
 abbrev pub CallTold : Call → KladoLedger → List ℕ → List ℕ → KladoLedgerAnswer → List ℕ → List ℕ → Type 0
-CallTold k h st j c st' j' = Told Called KladoLedgerAnswer (CalledEnsures k (ledger_of h) st j st' j') told_called c
+CallTold k h st j c st' j' = Told Called KladoLedgerAnswer (CalledEnsures k (ledger_of h) st j st' j') (told_called h) c
 
 -- wipe is lent no journal: its promise is for any
 abbrev pub WipeTold : KladoLedger → List ℕ → KladoLedgerAnswer → List ℕ → Type 0
-WipeTold h st c st' = Told Called KladoLedgerAnswer (λ r. (j : List ℕ) → CalledEnsures wipe (ledger_of h) st j st' j r) told_called c
+WipeTold h st c st' = Told Called KladoLedgerAnswer (λ r. (j : List ℕ) → CalledEnsures wipe (ledger_of h) st j st' j r) (told_called h) c
 
 -- writing a saved list
 abbrev pub WriteTold : KladoSet → List ℕ → List ℕ → KladoAnswer → List ℕ → Type 0

@@ -8,14 +8,16 @@
 ghost use Rattle.std.specs.Prelude.{◌≡◌, true, false, length};
 ghost use Rattle.ledger.specs.Machine.{range, back, point};
 ghost use Rattle.ledger.specs.Entries.{new_of as new_ledger_of};
-ghost use Rattle.capi_ledger.specs.LedgerTold.{ledger_of, ledger_head, unopened, told_opened, told_called, CallTold, WipeTold, OpenTold, WriteTold};
+ghost use Rattle.capi_ledger.specs.LedgerTold.{ledger_of, ledger_head, told_new, told_opened, told_called, CallTold, WipeTold, OpenTold, WriteTold};
 
-use capi_told::{KladoAnswer, KladoSet, head_of, of_counted, set_of};
-use ledger::{Called, Ledger, Opened};
+use answers::{Changed, Refusal};
+use capi_told::{KladoAnswer, KladoSet};
+use ledger::{Ledger, NotOpened};
+use range_bitset::RangeBitset;
 
 // The head of a ledger.
 #[repr(C)]
-#[derive(Clone, Copy)]
+#[derive(Clone, Copy, Debug, Default, PartialEq, Eq)]
 pub struct KladoLedger {
     pub set: KladoSet,
     pub journal: u32,
@@ -24,16 +26,16 @@ pub struct KladoLedger {
 
 // What the calls give that change a ledger.
 #[repr(C)]
-#[derive(Clone, Copy)]
+#[derive(Clone, Copy, Debug, PartialEq, Eq)]
 pub struct KladoLedgerAnswer {
     pub refused: u32,
     pub value: u32,
     pub head: KladoLedger,
 }
 
-// What the calls give that make a ledger.
+// What the calls give that make a ledger: beside a refusal stands a head that every call refuses.
 #[repr(C)]
-#[derive(Clone, Copy)]
+#[derive(Clone, Copy, Debug, Default, PartialEq, Eq)]
 pub struct KladoOpened {
     pub refused: u32,
     pub run: u64,
@@ -41,70 +43,73 @@ pub struct KladoOpened {
 }
 
 // A head in C's struct as the ledger's own, and back.
-fn ledger_of(head: KladoLedger) -> Ledger
-    ensures { result ≡ ledger_of head }
-{
-    Ledger {
-        set: set_of(head.set),
-        journal: head.journal,
-        used: head.used,
+impl From<KladoLedger> for Ledger {
+    ghost from_gives = { λ head ledger. ledger ≡ ledger_of head };
+
+    fn from(head: KladoLedger) -> Ledger {
+        Ledger {
+            set: RangeBitset::from(head.set),
+            journal: head.journal,
+            used: head.used,
+        }
     }
 }
 
-fn ledger_head(ledger: Ledger) -> KladoLedger
-    ensures { result ≡ ledger_head ledger }
-{
-    KladoLedger {
-        set: head_of(ledger.set),
-        journal: ledger.journal,
-        used: ledger.used,
+impl From<Ledger> for KladoLedger {
+    ghost from_gives = { λ ledger head. head ≡ ledger_head ledger };
+
+    fn from(ledger: Ledger) -> KladoLedger {
+        KladoLedger {
+            set: KladoSet::from(ledger.set),
+            journal: ledger.journal,
+            used: ledger.used,
+        }
     }
 }
 
-// A refusal of new or open: its number, the bad run's index for 8, and a head that every call refuses.
-fn unopened(refused: u32, run: u64) -> KladoOpened
-    ensures { result ≡ unopened refused run }
-{
-    KladoOpened {
-        refused,
-        run,
-        head: KladoLedger {
-            set: KladoSet {
-                words: 0,
-                len: 0,
-                allocated: false,
+// The answers in C's numbers: the bad run's index stands beside 8 alone.
+impl From<Result<Ledger, NotOpened>> for KladoOpened {
+    ghost from_gives = { λ answer told. told ≡ told_opened answer };
+
+    fn from(answer: Result<Ledger, NotOpened>) -> KladoOpened {
+        let (refused, run, head) = match answer {
+            Ok(ledger) => (0, 0, KladoLedger::from(ledger)),
+            Err(NotOpened::Refused(refusal)) => (
+                u8::from(refusal) as u32,
+                0,
+                KladoLedger::default(),
+            ),
+            Err(NotOpened::BadRun(index)) => (8, index as u64, KladoLedger::default()),
+        };
+        KladoOpened { refused, run, head }
+    }
+}
+
+impl From<Result<Ledger, Refusal>> for KladoOpened {
+    ghost from_gives = { λ answer told. told ≡ told_new answer };
+
+    fn from(answer: Result<Ledger, Refusal>) -> KladoOpened {
+        KladoOpened::from(answer.map_err(NotOpened::from))
+    }
+}
+
+impl KladoLedgerAnswer {
+    // What a call gives that changes a ledger: after a refused one the head is what it was.
+    pub fn after(head: KladoLedger, change: Result<Changed<u32, Ledger>, Refusal>) -> Self
+        ensures { result ≡ told_called head change }
+    {
+        match change {
+            Ok(changed) => KladoLedgerAnswer {
+                refused: 0,
+                value: changed.answer,
+                head: KladoLedger::from(changed.head),
             },
-            journal: 0,
-            used: 0,
-        },
-    }
-}
-
-fn of_opened(answer: Opened) -> KladoOpened
-    ensures { result ≡ told_opened answer }
-{
-    match answer {
-        Opened::Head(ledger) => KladoOpened {
-            refused: 0,
-            run: 0,
-            head: ledger_head(ledger),
-        },
-        Opened::Refused(k) => unopened(k as u32, 0),
-        Opened::BadRun(index) => unopened(8, index as u64),
-    }
-}
-
-// An answer and the head after it.
-fn of_called(called: Called) -> KladoLedgerAnswer
-    ensures { result ≡ told_called called }
-{
-    let answer = called.answer;
-    let after = called.head;
-    let numbers = of_counted(answer);
-    KladoLedgerAnswer {
-        refused: numbers.refused,
-        value: numbers.value,
-        head: ledger_head(after),
+            Err(refusal) => KladoLedgerAnswer {
+                refused: u8::from(refusal) as u32,
+                value: 0,
+                head,
+            },
+        }
     }
 }
 
@@ -115,9 +120,9 @@ pub extern "C" fn klado_ledger_new(
     storage: &[u64],
     journal: &[u32],
 ) -> KladoOpened
-    ensures { result ≡ told_opened (new_ledger_of capacity limit (length storage.now) (length journal.now)) }
+    ensures { result ≡ told_new (new_ledger_of capacity limit (length storage.now) (length journal.now)) }
 {
-    of_opened(Ledger::new(capacity, limit, storage, journal))
+    Ledger::new(capacity, limit, storage, journal).into()
 }
 
 #[unsafe(no_mangle)]
@@ -129,7 +134,7 @@ pub extern "C" fn klado_ledger_open(
 ) -> KladoOpened
     ensures { OpenTold file.now limit storage.old journal.now result storage.new }
 {
-    of_opened(Ledger::open(file, limit, storage, journal))
+    Ledger::open(file, limit, storage, journal).into()
 }
 
 #[unsafe(no_mangle)]
@@ -142,7 +147,8 @@ pub extern "C" fn klado_ledger_mark(
 ) -> KladoLedgerAnswer
     ensures { CallTold (range start end true) head storage.old journal.old result storage.new journal.new }
 {
-    of_called(ledger_of(head).mark(storage, journal, start, end))
+    let done = Ledger::from(head).mark(storage, journal, start, end);
+    KladoLedgerAnswer::after(head, done)
 }
 
 #[unsafe(no_mangle)]
@@ -155,7 +161,8 @@ pub extern "C" fn klado_ledger_clear(
 ) -> KladoLedgerAnswer
     ensures { CallTold (range start end false) head storage.old journal.old result storage.new journal.new }
 {
-    of_called(ledger_of(head).clear(storage, journal, start, end))
+    let done = Ledger::from(head).clear(storage, journal, start, end);
+    KladoLedgerAnswer::after(head, done)
 }
 
 #[unsafe(no_mangle)]
@@ -167,7 +174,8 @@ pub extern "C" fn klado_ledger_mark_point(
 ) -> KladoLedgerAnswer
     ensures { CallTold (point index true) head storage.old journal.old result storage.new journal.new }
 {
-    of_called(ledger_of(head).mark_point(storage, journal, index))
+    let done = Ledger::from(head).mark_point(storage, journal, index);
+    KladoLedgerAnswer::after(head, done)
 }
 
 #[unsafe(no_mangle)]
@@ -179,7 +187,8 @@ pub extern "C" fn klado_ledger_clear_point(
 ) -> KladoLedgerAnswer
     ensures { CallTold (point index false) head storage.old journal.old result storage.new journal.new }
 {
-    of_called(ledger_of(head).clear_point(storage, journal, index))
+    let done = Ledger::from(head).clear_point(storage, journal, index);
+    KladoLedgerAnswer::after(head, done)
 }
 
 #[unsafe(no_mangle)]
@@ -190,19 +199,21 @@ pub extern "C" fn klado_ledger_take_back(
 ) -> KladoLedgerAnswer
     ensures { CallTold back head storage.old journal.now result storage.new journal.now }
 {
-    of_called(ledger_of(head).take_back(storage, journal))
+    let done = Ledger::from(head).take_back(storage, journal);
+    KladoLedgerAnswer::after(head, done)
 }
 
 #[unsafe(no_mangle)]
 pub extern "C" fn klado_ledger_wipe(head: KladoLedger, storage: &mut [u64]) -> KladoLedgerAnswer
     ensures { WipeTold head storage.old result storage.new }
 {
-    of_called(ledger_of(head).wipe(storage))
+    let done = Ledger::from(head).wipe(storage);
+    KladoLedgerAnswer::after(head, done)
 }
 
 #[unsafe(no_mangle)]
 pub extern "C" fn klado_list_write(head: KladoSet, storage: &[u64], file: &mut [u8]) -> KladoAnswer
     ensures { WriteTold head storage.now file.old result file.new }
 {
-    of_counted(list_writer::write(set_of(head), storage, file))
+    list_writer::write(RangeBitset::from(head), storage, file).into()
 }

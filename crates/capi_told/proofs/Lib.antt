@@ -1,3 +1,2 @@
 -- The laws of C's numbers. Assumes nothing.
-pub mod Telling
 pub mod Numbers

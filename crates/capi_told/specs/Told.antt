@@ -1,18 +1,10 @@
 -- C's numbers for the set's heads and answers, and what an export promises with them: its answer is those numbers for an answer
 -- that an entry of the library promises. Assumes nothing.
-use Rattle.std.specs.Prelude.{◌≡◌, false}
+use Rattle.std.specs.Prelude.{◌≡◌, false, Some, None, Ok, Err}
 use Rattle.positions.specs.Positions.{one}
 use Rattle.range_bitset.specs.declared.RangeBitset.{RangeBitset}
-use Rattle.range_bitset.specs.declared.Made.{Made}
-use Rattle.range_bitset.specs.declared.Made.TheVariants as made
-use Rattle.range_bitset.specs.declared.Counted.{Counted}
-use Rattle.range_bitset.specs.declared.Counted.TheVariants as counted
-use Rattle.range_bitset.specs.declared.Tested.{Tested}
-use Rattle.range_bitset.specs.declared.Tested.TheVariants as tested
-use Rattle.range_bitset.specs.declared.Found.{Found}
-use Rattle.range_bitset.specs.declared.Found.TheVariants as found
-use Rattle.range_bitset.specs.declared.Assigned.{Assigned}
-use Rattle.range_bitset.specs.declared.Updated.{Updated}
+use Rattle.answers.specs.Refusals.{number_of, answer_in, head_after}
+use Rattle.range_bitset.specs.Answers.{Made, Counted, Tested, Found, Assigned, Updated}
 use Rattle.capi_told.specs.declared.KladoSet.{KladoSet}
 use Rattle.capi_told.specs.declared.KladoSetAnswer.{KladoSetAnswer}
 use Rattle.capi_told.specs.declared.KladoAnswer.{KladoAnswer}
@@ -29,31 +21,31 @@ head_of h = record { words = h.words; len = h.len; allocated = h.allocated }
 -- ---- answers: a refusal has its number, and 0 elsewhere
 
 abbrev pub told_made : Made → KladoSetAnswer
-told_made (made.Head h) = record { refused = 0; value = 0; head = head_of h }
-told_made (made.Refused k) = record { refused = k; value = 0; head = record { words = 0; len = 0; allocated = false } }
+told_made (Ok h) = record { refused = 0; value = 0; head = head_of h }
+told_made (Err k) = record { refused = number_of k; value = 0; head = record { words = 0; len = 0; allocated = false } }
 
 abbrev pub told_counted : Counted → KladoAnswer
-told_counted (counted.Count n) = record { refused = 0; value = n }
-told_counted (counted.Refused k) = record { refused = k; value = 0 }
+told_counted (Ok n) = record { refused = 0; value = n }
+told_counted (Err k) = record { refused = number_of k; value = 0 }
 
 abbrev pub told_tested : Tested → KladoAnswer
-told_tested (tested.Is b) = record { refused = 0; value = one b }
-told_tested (tested.Refused k) = record { refused = k; value = 0 }
+told_tested (Ok b) = record { refused = 0; value = one b }
+told_tested (Err k) = record { refused = number_of k; value = 0 }
 
 abbrev pub told_found : Found → KladoFound
-told_found (found.At i) = record { refused = 0; found = 1; at = i }
-told_found found.Nothing = record { refused = 0; found = 0; at = 0 }
-told_found (found.Refused k) = record { refused = k; found = 0; at = 0 }
+told_found (Ok (Some i)) = record { refused = 0; found = 1; at = i }
+told_found (Ok None) = record { refused = 0; found = 0; at = 0 }
+told_found (Err k) = record { refused = number_of k; found = 0; at = 0 }
 
 -- an answer with the head after it
 abbrev pub with_head : KladoAnswer → RangeBitset → KladoSetAnswer
 with_head a h = record { refused = a.refused; value = a.value; head = head_of h }
 
-abbrev pub told_assigned : Assigned → KladoSetAnswer
-told_assigned a = with_head (told_counted a.answer) a.head
+abbrev pub told_assigned : KladoSet → Assigned → KladoSetAnswer
+told_assigned h a = with_head (told_counted (answer_in a)) (head_after (set_of h) a)
 
-abbrev pub told_updated : Updated → KladoSetAnswer
-told_updated a = with_head (told_tested a.answer) a.head
+abbrev pub told_updated : KladoSet → Updated → KladoSetAnswer
+told_updated h a = with_head (told_tested (answer_in a)) (head_after (set_of h) a)
 
 -- ---- the exports
 

@@ -1,16 +1,17 @@
 // The heads and answers of a set in C's structs, which both archives for C hand over: include/kladomyne.h has the same structs in
-// C's words. Each function turns a value of the library into those numbers, or a head back, and nothing else: specs/Told.antt.
+// C's words. Each conversion turns a value of the library into those numbers, or a head back, and nothing else: specs/Told.antt.
 // No entry and no export: a library of the crates capi and capi_ledger. Assumes nothing.
 #![tactic(auto)]
 
 ghost use Rattle.std.specs.Prelude.{◌≡◌};
-ghost use Rattle.capi_told.specs.Told.{set_of, head_of, told_made, told_counted, told_tested, told_found, with_head};
+ghost use Rattle.capi_told.specs.Told.{set_of, head_of, told_made, told_counted, told_tested, told_found, told_assigned};
 
-use range_bitset::{Counted, Found, Made, RangeBitset, Tested};
+use answers::{Changed, Refusal};
+use range_bitset::RangeBitset;
 
 // The head of a set.
 #[repr(C)]
-#[derive(Clone, Copy)]
+#[derive(Clone, Copy, Debug, Default, PartialEq, Eq)]
 pub struct KladoSet {
     pub words: u32,
     pub len: u32,
@@ -19,7 +20,7 @@ pub struct KladoSet {
 
 // What the calls give that make or change a set.
 #[repr(C)]
-#[derive(Clone, Copy)]
+#[derive(Clone, Copy, Debug, PartialEq, Eq)]
 pub struct KladoSetAnswer {
     pub refused: u32,
     pub value: u32,
@@ -28,15 +29,15 @@ pub struct KladoSetAnswer {
 
 // What the calls give that ask for a number.
 #[repr(C)]
-#[derive(Clone, Copy)]
+#[derive(Clone, Copy, Debug, PartialEq, Eq)]
 pub struct KladoAnswer {
     pub refused: u32,
     pub value: u32,
 }
 
-// What the searches give.
+// What the searches give. C has no Option, so `found` stands beside the place.
 #[repr(C)]
-#[derive(Clone, Copy)]
+#[derive(Clone, Copy, Debug, PartialEq, Eq)]
 pub struct KladoFound {
     pub refused: u32,
     pub found: u32,
@@ -44,107 +45,101 @@ pub struct KladoFound {
 }
 
 // A head in C's struct as the set's own, and back.
-pub fn set_of(head: KladoSet) -> RangeBitset
-    ensures { result ≡ set_of head }
-{
-    RangeBitset {
-        words: head.words,
-        len: head.len,
-        allocated: head.allocated,
+impl From<KladoSet> for RangeBitset {
+    ghost from_gives = { λ head set. set ≡ set_of head };
+
+    fn from(head: KladoSet) -> RangeBitset {
+        RangeBitset {
+            words: head.words,
+            len: head.len,
+            allocated: head.allocated,
+        }
     }
 }
 
-pub fn head_of(set: RangeBitset) -> KladoSet
-    ensures { result ≡ head_of set }
-{
-    KladoSet {
-        words: set.words,
-        len: set.len,
-        allocated: set.allocated,
+impl From<RangeBitset> for KladoSet {
+    ghost from_gives = { λ set head. head ≡ head_of set };
+
+    fn from(set: RangeBitset) -> KladoSet {
+        KladoSet {
+            words: set.words,
+            len: set.len,
+            allocated: set.allocated,
+        }
     }
 }
 
 // The answers in C's numbers.
-pub fn of_made(answer: Made) -> KladoSetAnswer
-    ensures { result ≡ told_made answer }
-{
-    match answer {
-        Made::Head(set) => KladoSetAnswer {
-            refused: 0,
-            value: 0,
-            head: head_of(set),
-        },
-        Made::Refused(k) => KladoSetAnswer {
-            refused: k as u32,
-            value: 0,
-            head: KladoSet {
-                words: 0,
-                len: 0,
-                allocated: false,
+impl From<Result<RangeBitset, Refusal>> for KladoSetAnswer {
+    ghost from_gives = { λ answer told. told ≡ told_made answer };
+
+    fn from(answer: Result<RangeBitset, Refusal>) -> KladoSetAnswer {
+        match answer {
+            Ok(set) => KladoSetAnswer {
+                refused: 0,
+                value: 0,
+                head: KladoSet::from(set),
             },
-        },
+            Err(refusal) => KladoSetAnswer {
+                refused: u8::from(refusal) as u32,
+                value: 0,
+                head: KladoSet::default(),
+            },
+        }
     }
 }
 
-pub fn of_counted(answer: Counted) -> KladoAnswer
-    ensures { result ≡ told_counted answer }
-{
-    match answer {
-        Counted::Count(n) => KladoAnswer {
-            refused: 0,
-            value: n,
-        },
-        Counted::Refused(k) => KladoAnswer {
-            refused: k as u32,
-            value: 0,
-        },
+impl From<Result<u32, Refusal>> for KladoAnswer {
+    ghost from_gives = { λ answer told. told ≡ told_counted answer };
+
+    fn from(answer: Result<u32, Refusal>) -> KladoAnswer {
+        match answer {
+            Ok(value) => KladoAnswer { refused: 0, value },
+            Err(refusal) => KladoAnswer {
+                refused: u8::from(refusal) as u32,
+                value: 0,
+            },
+        }
     }
 }
 
-pub fn of_tested(answer: Tested) -> KladoAnswer
-    ensures { result ≡ told_tested answer }
-{
-    match answer {
-        Tested::Is(b) => KladoAnswer {
-            refused: 0,
-            value: if b { 1 } else { 0 },
-        },
-        Tested::Refused(k) => KladoAnswer {
-            refused: k as u32,
-            value: 0,
-        },
+impl From<Result<bool, Refusal>> for KladoAnswer {
+    ghost from_gives = { λ answer told. told ≡ told_tested answer };
+
+    fn from(answer: Result<bool, Refusal>) -> KladoAnswer {
+        KladoAnswer::from(answer.map(u32::from))
     }
 }
 
-pub fn of_found(answer: Found) -> KladoFound
-    ensures { result ≡ told_found answer }
-{
-    match answer {
-        Found::At(i) => KladoFound {
-            refused: 0,
-            found: 1,
-            at: i as u64,
-        },
-        Found::Nothing => KladoFound {
-            refused: 0,
-            found: 0,
-            at: 0,
-        },
-        Found::Refused(k) => KladoFound {
-            refused: k as u32,
-            found: 0,
-            at: 0,
-        },
+impl From<Result<Option<usize>, Refusal>> for KladoFound {
+    ghost from_gives = { λ answer told. told ≡ told_found answer };
+
+    fn from(answer: Result<Option<usize>, Refusal>) -> KladoFound {
+        let (refused, found, at) = match answer {
+            Ok(Some(i)) => (0, 1, i as u64),
+            Ok(None) => (0, 0, 0),
+            Err(refusal) => (u8::from(refusal) as u32, 0, 0),
+        };
+        KladoFound { refused, found, at }
     }
 }
 
-// An answer and the head after it.
-pub fn with_head(told: KladoAnswer, set: RangeBitset) -> KladoSetAnswer
-    ensures { result ≡ with_head told set }
-{
-    KladoSetAnswer {
-        refused: told.refused,
-        value: told.value,
-        head: head_of(set),
+impl KladoSetAnswer {
+    // What a call gives that changes a set: after a refused one the head is what it was.
+    pub fn after(head: KladoSet, change: Result<Changed<u32, RangeBitset>, Refusal>) -> Self
+        ensures { result ≡ told_assigned head change }
+    {
+        match change {
+            Ok(changed) => KladoSetAnswer {
+                refused: 0,
+                value: changed.answer,
+                head: KladoSet::from(changed.head),
+            },
+            Err(refusal) => KladoSetAnswer {
+                refused: u8::from(refusal) as u32,
+                value: 0,
+                head,
+            },
+        }
     }
 }

@@ -1,40 +1,34 @@
 -- A line gathered in a buffer of 28 bytes or more means what the whole line means: a good line has at most 27 bytes, so a line
 -- that did not fit is bad, and so are the bytes kept of it. And how gathering cuts the input into lines. Assumes nothing.
-use Rattle.command_lines.proofs.Kit.{◌≡◌, refl, sym, ap, ◌∙◌, Bool, true, false, cond, ◌&&◌, false≢true, List, [], ◌∷◌, ◌++◌, append_assoc, append-nil, ℕ, suc, ◌+◌, ◌^◌, ◌≤◌, ◌<◌, min, arith, length, take, drop, get_or, set, length-append, length-set, length-take, length-drop, sets, set_out, take_all, take-suc-set, take-append-le, drop-cons, add-one, leb, ltb, eqb, leb-true, leb-false, ltb-true, ltb-false}
+use Rattle.command_lines.proofs.Kit.{◌≡◌, refl, sym, ap, ◌∙◌, Bool, true, false, cond, ◌&&◌, false≢true, Option, Some, None, List, [], ◌∷◌, ◌++◌, append_assoc, append-nil, ℕ, suc, ◌+◌, ◌^◌, ◌≤◌, ◌<◌, arith, length, take, drop, length-append, length-take, length-drop, take_all, take-append-le, leb, ltb, eqb, leb-true, leb-false, codes, bytes_eq, bytes_eq-Decides}
 use Rattle.positions.proofs.Bools.{and_left, and_right}
-use Rattle.command_lines.specs.declared.Gathered.{Gathered}
-use Rattle.command_lines.specs.declared.Command.TheVariants.{Bad}
-use Rattle.command_lines.specs.declared.Pair.TheVariants.{Both, Not}
-use Rattle.command_lines.specs.Lines.{fields, is_number, all_digits, value, same, new, mark, clear, count, one, zero, back, wipe, with, command, meaning}
-use Rattle.command_lines.specs.Input.{lines_from, up_to, ends, kept_next, kept_after, Gathers, Buffered}
-use Rattle.command_lines.proofs.Texts.{same_true}
+use Rattle.command_lines.specs.Lines.{fields, is_number, all_digits, value, with, command, meaning}
+use Rattle.command_lines.specs.Input.{lines_from, up_to, ends, Gathers, Buffered}
+use Rattle.command_lines.proofs.Gathering.{gathers_ended}
 use Rattle.command_lines.proofs.Fields.{joined, fields_joined}
-use Rattle.command_lines.proofs.Meaning.{with_none}
-use Rattle.command_lines.proofs.Gathering.{sets_kept, kept_more, kept_none}
 
 -- ---- a line of 28 bytes or more is bad
 
 number_length : (f : List ℕ) → is_number f ≡ true → length f ≤ 10
-unfolding is_number
 number_length f e =
     let p = and_left (all_digits f && leb 1 (length f) && leb (length f) 10) (ltb (value f) (2 ^ 32)) e in
     leb-true (length f) 10 (and_right (all_digits f && leb 1 (length f)) (leb (length f) 10) p)
 
-other_length : (w v : List ℕ) → length v < length w → same w v ≡ false
-other_length w v h = go (same w v) refl where
-  go : (s : Bool) → same w v ≡ s → s ≡ false
+other_length : (w v : List ℕ) → length v < length w → bytes_eq w v ≡ false
+other_length w v h = go (bytes_eq w v) refl where
+  go : (s : Bool) → bytes_eq w v ≡ s → s ≡ false
   go false e = refl
-  go true e = absurd (omega (arith, ap length (same_true w v e)))
+  go true e = absurd (omega (arith, ap length ((bytes_eq-Decides w v).0 e)))
 
-long_keyword : (w : List ℕ) → 5 < length w → (a b : ℕ) → with w (Both a b) ≡ Bad
-long_keyword w h a b = with_none w (Both a b) (no new (omega arith)) (no mark (omega arith)) (no clear (omega arith)) (no count (omega arith)) (no one (omega arith)) (no zero (omega arith)) where
-  no : (v : List ℕ) → length v ≤ 5 → same w v ≡ false
+long_keyword : (w : List ℕ) → 5 < length w → (a b : ℕ) → with w (Some (a, b)) ≡ None
+long_keyword w h a b = simp (no (codes "new") (omega arith), no (codes "mark") (omega arith), no (codes "clear") (omega arith), no (codes "count") (omega arith), no (codes "one") (omega arith), no (codes "zero") (omega arith)) where
+  no : (v : List ℕ) → length v ≤ 5 → bytes_eq w v ≡ false
   no v k = other_length w v (omega arith)
 
-pub long_line : (line : List ℕ) → 27 < length line → meaning line ≡ Bad
+pub long_line : (line : List ℕ) → 27 < length line → meaning line ≡ None
 long_line line h = go (fields line) (fields_joined line) where
   three : (w a b : List ℕ) → 27 < length (w ++ (32 ∷ (a ++ (32 ∷ b)))) → (s t : Bool) → is_number a ≡ s → is_number b ≡ t
-      → with w (cond (is_number a && is_number b) (Both (value a) (value b)) Not) ≡ Bad
+      → with w (cond (is_number a && is_number b) (Some (value a, value b)) None) ≡ None
   three w a b k false t p q = simp p
   three w a b k true false p q = simp (p, q)
   three w a b k true true p q =
@@ -42,65 +36,43 @@ long_line line h = go (fields line) (fields_joined line) where
       let l : 5 < length w = omega (arith, number_length a p, number_length b q, length-append w (32 ∷ (a ++ (32 ∷ b))), length-append a (32 ∷ b)) in
       simp (p, q) (long_keyword w l (value a) (value b))
 
-  go : (fs : List (List ℕ)) → joined fs ≡ line → command fs ≡ Bad
+  go : (fs : List (List ℕ)) → joined fs ≡ line → command fs ≡ None
   go [] e = refl
   go (w ∷ []) e =
       let k : 27 < length w = omega (arith, ap length e) in
-      simp (other_length w back (omega arith), other_length w wipe (omega arith))
+      simp (other_length w (codes "back") (omega arith), other_length w (codes "wipe") (omega arith))
   go (w ∷ a ∷ []) e = refl
   go (w ∷ a ∷ b ∷ []) e = three w a b (omega (arith, ap length e)) (is_number a) (is_number b) refl refl
   go (w ∷ a ∷ b ∷ f ∷ fs) e = refl
 
 -- ---- what the buffer holds
 
-pub holds_none : (buffer : List ℕ) → Buffered buffer 0 []
-holds_none buffer = record { filled = omega arith; bytes = sym (take_all (length buffer) [] (omega arith)) }
+pub holds_none : (size : ℕ) → Buffered size [] []
+holds_none size = record { bytes = sym (take_all size [] (omega arith)) }
 
-holds_byte : (buffer l : List ℕ) (n b : ℕ) → Buffered buffer n l → Buffered (set buffer n b) (kept_next (length buffer) n) (l ++ (b ∷ []))
-holds_byte buffer l n b h = go (ltb n (length buffer)) refl where
-  s : length (set buffer n b) ≡ length buffer
-  s = length-set buffer n b
-
-  a : length (l ++ (b ∷ [])) ≡ length l + 1
-  a = length-append l (b ∷ [])
-
-  go : (t : Bool) → ltb n (length buffer) ≡ t → Buffered (set buffer n b) (cond t (n + 1) n) (l ++ (b ∷ []))
-  go true e =
-      let k : n < length buffer = ltb-true n (length buffer) e in
-      let m : n ≡ length l = omega (arith, h.filled) in
-      let w : take n buffer ≡ l = h.bytes ∙ take_all (length buffer) l (omega arith) in
-      record {
-        filled = omega (arith, s, a);
-        bytes = rw add-one (take-suc-set buffer n b k) ∙ ap (λ (x : List ℕ). x ++ (b ∷ [])) w ∙ sym (take_all (length (set buffer n b)) (l ++ (b ∷ [])) (omega (arith, s, a)));
-      }
+-- more bytes behind those that are held are bytes behind the line's
+take_behind : (size : ℕ) (l p : List ℕ) → take size (take size l ++ p) ≡ take size (l ++ p)
+take_behind size l p = go (leb (length l) size) refl where
+  go : (s : Bool) → leb (length l) size ≡ s → take size (take size l ++ p) ≡ take size (l ++ p)
+  go true e = ap (λ (x : List ℕ). take size (x ++ p)) (take_all size l (leb-true (length l) size e))
   go false e =
-      let k : length buffer ≤ n = ltb-false n (length buffer) e in
-      let m : length buffer ≤ length l = omega (arith, h.filled) in
-      record {
-        filled = omega (arith, s, a, h.filled);
-        bytes = rw (set_out buffer n b k) (h.bytes ∙ sym (take-append-le (length buffer) l (b ∷ []) m));
-      }
-
-pub holds_bytes : (p buffer l : List ℕ) (n : ℕ) → Buffered buffer n l → Buffered (sets buffer n p) (kept_after (length buffer) n p) (l ++ p)
-holds_bytes [] buffer l n h = rw (append-nil l, ← kept_none (length buffer) n) h
-holds_bytes (b ∷ p) buffer l n h =
-    let i = holds_bytes p (set buffer n b) (l ++ (b ∷ [])) (kept_next (length buffer) n) (holds_byte buffer l n b h) in
-    rw (length-set, kept_more (length buffer) n b p, sets_kept buffer n b p, append_assoc) at i
+      let m : size ≤ length l = omega (arith, leb-false (length l) size e) in
+      let n : size ≤ length (take size l) = omega (arith, length-take size l) in
+      take-append-le size (take size l) p n ∙ take_all size (take size l) (omega (arith, length-take size l)) ∙ sym (take-append-le size l p m)
 
 -- gathering keeps hold of the line
-pub gathers_holds : (text : List ℕ) (from : ℕ) (line : List ℕ) (kept : ℕ) (r : Gathered) (after l : List ℕ) → Gathers text from line kept r after
-    → Buffered line kept l → Buffered after r.kept (l ++ up_to (drop from text))
-gathers_holds text from line kept r after l g h = rw (g.line_after, g.kept_is) (holds_bytes (up_to (drop from text)) line l kept h)
+pub gathers_holds : {size : ℕ} {text line after l : List ℕ} {rest : Option (List ℕ)} → Gathers size text line after rest → Buffered size line l
+    → Buffered size after (l ++ up_to text)
+gathers_holds {size} {text} {line} {after} {l} g h = record { bytes = rw (g.line_after, h.bytes) (take_behind size l (up_to text)) }
 
 -- the bytes kept mean what the line means
-pub held_means : (buffer l : List ℕ) (n : ℕ) → 27 < length buffer → Buffered buffer n l → meaning (take n buffer) ≡ meaning l
-held_means buffer l n k h = go (leb (length l) (length buffer)) refl where
-  go : (s : Bool) → leb (length l) (length buffer) ≡ s → meaning (take n buffer) ≡ meaning l
-  go true e = ap meaning (h.bytes ∙ take_all (length buffer) l (leb-true (length l) (length buffer) e))
+pub held_means : (size : ℕ) (held l : List ℕ) → 27 < size → Buffered size held l → meaning held ≡ meaning l
+held_means size held l k h = go (leb (length l) size) refl where
+  go : (s : Bool) → leb (length l) size ≡ s → meaning held ≡ meaning l
+  go true e = ap meaning (h.bytes ∙ take_all size l (leb-true (length l) size e))
   go false e =
-      let m : length buffer < length l = leb-false (length l) (length buffer) e in
-      let t : length (take (length buffer) l) ≡ min (length buffer) (length l) = length-take (length buffer) l in
-      ap meaning h.bytes ∙ long_line (take (length buffer) l) (omega arith) ∙ sym (long_line l (omega arith))
+      let m : size < length l = leb-false (length l) size e in
+      ap meaning h.bytes ∙ long_line (take size l) (omega (arith, length-take size l)) ∙ sym (long_line l (omega arith))
 
 -- ---- the lines of an input that comes in parts: t is the part at hand, and more what follows
 
@@ -135,29 +107,19 @@ up_to_open (b ∷ t) e = go (eqb b 10) e (up_to_open t) where
 
 -- ---- what a loop over a text needs: gathering moves on, within the text, and keeps within the buffer
 
-up_to_length : (t : List ℕ) → length (up_to t) + cond (ends t) 1 0 ≤ length t
+-- a text that has a newline is longer than what stands before it
+up_to_ended : (t : List ℕ) → ends t ≡ true → length (up_to t) < length t
 unfolding up_to ends
-up_to_length [] = omega arith
-up_to_length (b ∷ t) = go (eqb b 10) (up_to_length t) where
-  go : (s : Bool) → length (up_to t) + cond (ends t) 1 0 ≤ length t → length (cond s [] (b ∷ up_to t)) + cond (cond s true (ends t)) 1 0 ≤ suc (length t)
-  go true h = omega arith
-  go false h = omega arith
+up_to_ended [] e = absurd (false≢true e)
+up_to_ended (b ∷ t) e = go (eqb b 10) e (up_to_ended t) where
+  go : (s : Bool) → cond s true (ends t) ≡ true → (ends t ≡ true → length (up_to t) < length t) → length (cond s [] (b ∷ up_to t)) < suc (length t)
+  go true h i = omega arith
+  go false h i = let l = i h in omega arith
 
-up_to_moves : (b : ℕ) (t : List ℕ) → 0 < length (up_to (b ∷ t)) + cond (ends (b ∷ t)) 1 0
-unfolding up_to ends
-up_to_moves b t = go (eqb b 10) where
-  go : (s : Bool) → 0 < length (cond s [] (b ∷ up_to t)) + cond (cond s true (ends t)) 1 0
-  go true = omega arith
-  go false = omega arith
+pub gathers_moves : {size : ℕ} {text line after rest : List ℕ} → Gathers size text line after (Some rest) → length rest < length text
+gathers_moves {text = text} g =
+    let (e, r) = gathers_ended g in
+    omega (arith, ap length r, length-drop (length (up_to text) + 1) text, up_to_ended text e)
 
-pub gathers_moves : (text : List ℕ) (from : ℕ) (line : List ℕ) (kept : ℕ) (r : Gathered) (after : List ℕ) → Gathers text from line kept r after
-    → from < length text → (from < r.at) × (r.at ≤ length text)
-gathers_moves text from line kept r after g h =
-    let t = drop from text in
-    let d : t ≡ get_or text from 0 ∷ drop (suc from) text = drop-cons text from 0 h in
-    let m : 0 < length (up_to t) + cond (ends t) 1 0 = rw d (up_to_moves (get_or text from 0) (drop (suc from) text)) in
-    (omega (arith, g.next), omega (arith, g.next, up_to_length t, length-drop from text))
-
-pub gathers_fits : (text : List ℕ) (from : ℕ) (line : List ℕ) (kept : ℕ) (r : Gathered) (after : List ℕ) → Gathers text from line kept r after
-    → kept ≤ length line → r.kept ≤ length line
-gathers_fits text from line kept r after g h = omega (arith, g.kept_is)
+pub gathers_fits : {size : ℕ} {text line after : List ℕ} {rest : Option (List ℕ)} → Gathers size text line after rest → length after ≤ size
+gathers_fits {size} {text} {line} g = omega (arith, ap length g.line_after, length-take size (line ++ up_to text))

@@ -1,35 +1,37 @@
--- Laws of a text's fields: the first field and the rest, the text of the fields joined, and a keyword before a space. Assumes nothing.
-use Rattle.command_lines.proofs.Kit.{◌≡◌, refl, sym, ap, ◌∙◌, Bool, true, false, not, cond, ◌&&◌, List, [], ◌∷◌, ◌++◌, ℕ, ◌+◌, ◌≤◌, ◌<◌, add-one, length, drop, drop_of_length-le, get_or, drop-drop, drop-cons, eqb, eqb-true, not-true, eq-eqb, ne_eqb}
+-- Laws of a text's fields: the text cut at its first space, a text of digits, the fields joined again, and what a line means by
+-- the text before its first space and the text behind it. Assumes nothing.
+use Rattle.command_lines.proofs.Kit.{◌≡◌, refl, sym, ap, ◌∙◌, Bool, true, false, not, cond, ◌&&◌, Option, Some, None, List, [], ◌∷◌, ◌++◌, ℕ, ◌+◌, ◌<◌, ◌≤◌, arith, add-one, one-add, length, take, drop, eqb, eqb-true, ltb, ltb-true, position, position_or_len, prefix_len, cond_some}
 use Rattle.positions.proofs.Bools.{and_left, and_right}
-use Rattle.command_lines.specs.Lines.{fields, onto}
-use Rattle.command_lines.specs.Inner.{first_field}
+use Rattle.command_lines.specs.Inner.{SplitsAt}
+use Rattle.command_lines.specs.Lines.{fields, onto, digit, all_digits, value, is_number, pair, alone, with, command, meaning}
 
--- the fields after the byte that ends the first one
-abbrev pub rest : List ℕ → List (List ℕ)
-rest [] = []
-rest (b ∷ t) = fields t
+-- ---- cut at the first space
 
-pub fields_split : (t : List ℕ) → fields t ≡ first_field t ∷ rest (drop (length (first_field t)) t)
-unfolding fields first_field
-fields_split [] = refl
-fields_split (b ∷ t) = go (eqb b 32) refl (fields_split t) where
-  go : (s : Bool) → eqb b 32 ≡ s → fields t ≡ first_field t ∷ rest (drop (length (first_field t)) t)
-      → fields (b ∷ t) ≡ first_field (b ∷ t) ∷ rest (drop (length (first_field (b ∷ t))) (b ∷ t))
-  go true e h = simp e
-  go false e h = simp (e, h)
+abbrev pub space : ℕ → Bool
+space b = eqb b 32
 
--- the same of the text that starts at `from`
-pub fields_at : (l : List ℕ) (from : ℕ) → fields (drop from l) ≡ first_field (drop from l) ∷ rest (drop (from + length (first_field (drop from l))) l)
-fields_at l from = fields_split (drop from l) ∙ ap (λ (r : List ℕ). first_field (drop from l) ∷ rest r) (drop-drop _ from l)
+-- i is the place of the first space, or the length where there is none
+record Cut (t : List ℕ) (i : ℕ) : Type 0 where
+  none : length t ≤ i → fields t ≡ t ∷ []
+  some : i < length t → fields t ≡ take i t ∷ fields (drop (i + 1) t)
 
--- past the end there is no field, and before it the next one starts behind the byte
-pub rest_end : (l : List ℕ) (at : ℕ) → length l ≤ at → rest (drop at l) ≡ []
-rest_end l at h = ap rest (drop_of_length-le l h)
+cut : (t : List ℕ) → Cut t (position_or_len space t)
+unfolding fields
+cut [] = record { none = λ h. refl; some = λ h. absurd (omega arith) }
+cut (b ∷ t) = go (eqb b 32) refl (cut t) where
+  go : (s : Bool) → eqb b 32 ≡ s → Cut t (prefix_len (λ x. not (space x)) t) → Cut (b ∷ t) (cond (not s) (1 + prefix_len (λ x. not (space x)) t) 0)
+  go true e i = record { none = λ h. absurd (omega arith); some = λ h. simp e }
+  go false e i = record { none = λ h. simp (e, i.none (omega arith)); some = λ h. simp (e, one-add, add-one, i.some (omega arith)) }
 
-pub rest_more : (l : List ℕ) (at : ℕ) → at < length l → rest (drop at l) ≡ fields (drop (at + 1) l)
-rest_more l at h = rw (drop-cons l at 0, add-one)
+pub one_field : (t : List ℕ) → position space t ≡ None → fields t ≡ t ∷ []
+one_field t e = (cut t).none (grind arith)
 
--- ---- joined
+pub more_fields : {t a b : List ℕ} → SplitsAt 32 t a b → fields t ≡ a ∷ fields b
+more_fields {t} {a} {b} h =
+    let (l, e) = cond_some (ltb (position_or_len space t) (length t)) (position_or_len space t) (length a) h.place in
+    rw (h.before, h.behind) ((cut t).some (ltb-true _ _ l))
+
+-- ---- joined again
 
 -- the fields with a space between each two
 abbrev pub joined : List (List ℕ) → List ℕ
@@ -42,8 +44,22 @@ joined_onto b [] = refl
 joined_onto b (f ∷ []) = refl
 joined_onto b (f ∷ g ∷ fs) = refl
 
+-- the fields are not none
+record Some_fields (t : List ℕ) : Type 0 where
+  first : List ℕ
+  others : List (List ℕ)
+  are : fields t ≡ first ∷ others
+
+some_fields : (t : List ℕ) → Some_fields t
+unfolding fields
+some_fields [] = record { first = []; others = []; are = refl }
+some_fields (b ∷ t) = go (eqb b 32) (some_fields t) refl where
+  go : (s : Bool) → Some_fields t → eqb b 32 ≡ s → Some_fields (b ∷ t)
+  go true r e = record { first = []; others = fields t; are = simp e }
+  go false r e = record { first = b ∷ r.first; others = r.others; are = simp (e, r.are) }
+
 joined_empty : (t : List ℕ) → joined ([] ∷ fields t) ≡ 32 ∷ joined (fields t)
-joined_empty t = rw fields_split
+joined_empty t = rw (some_fields t).are
 
 pub fields_joined : (t : List ℕ) → joined (fields t) ≡ t
 unfolding fields
@@ -53,31 +69,36 @@ fields_joined (b ∷ t) = go (eqb b 32) refl (fields_joined t) where
   go true e h = joined_empty t ∙ ap (λ (l : List ℕ). 32 ∷ l) h ∙ ap (λ (x : ℕ). x ∷ t) (sym (eqb-true b 32 e))
   go false e h = joined_onto b (fields t) ∙ ap (λ (l : List ℕ). b ∷ l) h
 
--- ---- a keyword before a space
+-- ---- two numbers
 
--- the text has no space
-abbrev pub spaceless : List ℕ → Bool
-spaceless [] = true
-spaceless (b ∷ w) = not (eqb b 32) && spaceless w
-
-pub fields_keyword : (w t : List ℕ) → spaceless w ≡ true → fields (w ++ (32 ∷ t)) ≡ w ∷ fields t
+-- a number is one field
+number_fields : (f : List ℕ) → all_digits f ≡ true → fields f ≡ f ∷ []
 unfolding fields
-fields_keyword [] t e = refl
-fields_keyword (b ∷ w) t e = simp (
-  not-true (eqb b 32) (and_left (not (eqb b 32)) (spaceless w) e),
-  fields_keyword w t (and_right (not (eqb b 32)) (spaceless w) e),
-)
+number_fields [] e = refl
+number_fields (b ∷ f) e =
+    let d = and_left (digit b) (all_digits f) e in
+    let s : eqb b 32 ≡ false = grind arith in
+    simp (s, number_fields f (and_right (digit b) (all_digits f) e))
 
--- ---- the first field from an index on
+-- two fields of which the second may be more
+pair_of : (a b : List ℕ) → pair (a ∷ fields b) ≡ cond (is_number a && is_number b) (Some (value a, value b)) None
+pair_of a b = go (is_number b) refl where
+  many : (fs : List (List ℕ)) → fields b ≡ fs → is_number b ≡ false → pair (a ∷ fs) ≡ None
+  many [] e n = refl
+  many (f ∷ []) e n = let same : f ≡ b = sym (ap joined e) ∙ fields_joined b in grind arith
+  many (f ∷ g ∷ fs) e n = refl
 
-pub first_space : (l : List ℕ) (at : ℕ) → at < length l → get_or l at 0 ≡ 32 → first_field (drop at l) ≡ []
-unfolding first_field
-first_space l at h e = rw (drop-cons l at 0 h) (simp (eq-eqb (get_or l at 0) 32 e))
+  go : (s : Bool) → is_number b ≡ s → pair (a ∷ fields b) ≡ cond (is_number a && s) (Some (value a, value b)) None
+  go true e = let f : fields b ≡ b ∷ [] = number_fields b (grind arith) in rw f (simp e)
+  go false e = many (fields b) refl e ∙ grind arith
 
-pub first_more : (l : List ℕ) (at : ℕ) → at < length l → (get_or l at 0 ≡ 32 → ⊥) → first_field (drop at l) ≡ get_or l at 0 ∷ first_field (drop (at + 1) l)
-unfolding first_field
-first_more l at h e = rw (drop-cons l at 0 h, add-one) (simp (ne_eqb (get_or l at 0) 32 e))
+pub pair_split : {t a b : List ℕ} → SplitsAt 32 t a b → pair (fields t) ≡ cond (is_number a && is_number b) (Some (value a, value b)) None
+pair_split {t} {a} {b} h = ap pair (more_fields h) ∙ pair_of a b
 
-pub first_end : (l : List ℕ) (at : ℕ) → length l ≤ at → first_field (drop at l) ≡ []
-unfolding first_field
-first_end l at h = rw (drop_of_length-le l h)
+-- ---- a line
+
+pub means_alone : (line : List ℕ) → position space line ≡ None → meaning line ≡ alone line
+means_alone line e = ap command (one_field line e)
+
+pub means_with : {line w t : List ℕ} {p : Option (ℕ × ℕ)} → SplitsAt 32 line w t → p ≡ pair (fields t) → meaning line ≡ with w p
+means_with {line} {w} {t} h e = let s = some_fields t in ap command (more_fields h) ∙ rw (e, s.are)

@@ -1,91 +1,55 @@
--- Laws of gathering a line: the bytes up to a newline, one byte more in the buffer, and what the buffer then holds of the line.
--- Assumes nothing.
-use Rattle.command_lines.proofs.Kit.{◌≡◌, refl, sym, ap, ◌∙◌, Bool, true, false, cond, List, [], ◌∷◌, ℕ, suc, ◌+◌, ◌≤◌, ◌<◌, min, max, add-zero, arith, add-one, length, drop, get_or, set, drop_of_length-le, length-set, sets, drop-cons, ltb, eq-eqb, ne_eqb, ltb-true, ltb-false}
-use Rattle.command_lines.specs.Input.{up_to, ends, kept_next, kept_after, Gathers}
-use Rattle.command_lines.proofs.Filling.{sets_out}
+-- Laws of gathering a line: the bytes up to a newline and those behind it, by where the newline is. Assumes nothing.
+use Rattle.command_lines.proofs.Kit.{◌≡◌, refl, sym, ap, ◌∙◌, Bool, true, false, not, cond, Some, None, List, [], ◌∷◌, ◌++◌, ℕ, ◌+◌, ◌≤◌, ◌<◌, arith, one-add, length, take, drop, take_all, eqb, ltb, ltb-true, position, position_or_len, prefix_len, cond_some}
+use Rattle.command_lines.specs.Inner.{SplitsAt}
+use Rattle.command_lines.specs.Input.{up_to, ends, Gathers}
 
--- ---- the text from an index on
+abbrev newline : ℕ → Bool
+newline b = eqb b 10
 
-module _ (t : List ℕ) (at : ℕ) where
-  pub up_to_end : length t ≤ at → up_to (drop at t) ≡ []
-  unfolding up_to
-  up_to_end h = rw (drop_of_length-le t h)
+-- i is the place of the first newline, or the length where there is none
+pub record Line (t : List ℕ) (i : ℕ) : Type 0 where
+  pub upto : up_to t ≡ take i t
+  pub most : i ≤ length t
+  pub unended : length t ≤ i → ends t ≡ false
+  pub ended : i < length t → ends t ≡ true
 
-  pub ends_end : length t ≤ at → ends (drop at t) ≡ false
-  unfolding ends
-  ends_end h = rw (drop_of_length-le t h)
-
-  pub up_to_newline : at < length t → get_or t at 0 ≡ 10 → up_to (drop at t) ≡ []
-  unfolding up_to
-  up_to_newline h e = rw (drop-cons t at 0 h) (simp (eq-eqb (get_or t at 0) 10 e))
-
-  pub ends_newline : at < length t → get_or t at 0 ≡ 10 → ends (drop at t) ≡ true
-  unfolding ends
-  ends_newline h e = rw (drop-cons t at 0 h) (simp (eq-eqb (get_or t at 0) 10 e))
-
-  pub up_to_more : at < length t → (get_or t at 0 ≡ 10 → ⊥) → up_to (drop at t) ≡ get_or t at 0 ∷ up_to (drop (at + 1) t)
-  unfolding up_to
-  up_to_more h e = rw (drop-cons t at 0 h, add-one) (simp (ne_eqb (get_or t at 0) 10 e))
-
-  pub ends_more : at < length t → (get_or t at 0 ≡ 10 → ⊥) → ends (drop at t) ≡ ends (drop (at + 1) t)
-  unfolding ends
-  ends_more h e = rw (drop-cons t at 0 h, add-one) (simp (ne_eqb (get_or t at 0) 10 e))
-
--- ---- one byte more
-
-pub sets_kept : (l : List ℕ) (n b : ℕ) (u : List ℕ) → sets (set l n b) (kept_next (length l) n) u ≡ sets l n (b ∷ u)
-sets_kept l n b u = go (ltb n (length l)) refl where
-  go : (s : Bool) → ltb n (length l) ≡ s → sets (set l n b) (cond s (n + 1) n) u ≡ sets (set l n b) (suc n) u
-  go true e = rw add-one
-  go false e =
-      let h : length (set l n b) ≤ n = simp length-set (ltb-false n (length l) e) in
-      sets_out (set l n b) n u h ∙ sym (sets_out (set l n b) (suc n) u (omega arith))
-
-pub kept_more : (size n b : ℕ) (u : List ℕ) → kept_after size (kept_next size n) u ≡ kept_after size n (b ∷ u)
-kept_more size n b u = go (ltb n size) refl where
-  go : (s : Bool) → ltb n size ≡ s → kept_after size (cond s (n + 1) n) u ≡ max n (min (n + suc (length u)) size)
-  go true e = let h : n < size = ltb-true n size e in omega arith
-  go false e = let h : size ≤ n = ltb-false n size e in omega arith
-
-pub kept_none : (size n : ℕ) → n ≡ kept_after size n []
-kept_none size n = omega arith
-
--- ---- the loop: gathering from `at` on into `line`, filled up to n, gives what gathering from `from` on into `line₀` gives
-
-pub record Rest (text : List ℕ) (from : ℕ) (line₀ : List ℕ) (kept : ℕ) (line : List ℕ) (at n : ℕ) : Type 0 where
-  pub size : length line ≡ length line₀
-  pub stored : sets line n (up_to (drop at text)) ≡ sets line₀ kept (up_to (drop from text))
-  pub keeps : kept_after (length line) n (up_to (drop at text)) ≡ kept_after (length line₀) kept (up_to (drop from text))
-  pub closes : ends (drop at text) ≡ ends (drop from text)
-  pub passed : at + length (up_to (drop at text)) ≡ from + length (up_to (drop from text))
-
-module _ {text : List ℕ} {from : ℕ} {line₀ : List ℕ} {kept : ℕ} {line : List ℕ} {at n : ℕ} (r : Rest text from line₀ kept line at n) where
-  pub rest_more : at < length text → (get_or text at 0 ≡ 10 → ⊥)
-      → Rest text from line₀ kept (set line n (get_or text at 0)) (at + 1) (kept_next (length line) n)
-  rest_more h e =
-      let u = up_to_more text at h e in
-      let s : length (set line n (get_or text at 0)) ≡ length line = length-set line n (get_or text at 0) in
-      record {
-        size = s ∙ r.size;
-        stored = sets_kept line n (get_or text at 0) (up_to (drop (at + 1) text)) ∙ ap (sets line n) (sym u) ∙ r.stored;
-        keeps = ap (λ (k : ℕ). kept_after k (kept_next (length line) n) (up_to (drop (at + 1) text))) s
-            ∙ kept_more (length line) n (get_or text at 0) (up_to (drop (at + 1) text)) ∙ ap (kept_after (length line) n) (sym u) ∙ r.keeps;
-        closes = sym (ends_more text at h e) ∙ r.closes;
-        passed = omega (arith, ap length u, r.passed);
-      }
-
-  -- the bytes are all stored: what the call answers
-  stop : (more : Bool) → up_to (drop at text) ≡ [] → ends (drop at text) ≡ more → Gathers text from line₀ kept (record { at = at + cond more 1 0; kept = n; ended = more }) line
-  stop more u e = record {
-    line_after = sym (ap (sets line n) u) ∙ r.stored;
-    kept_is = kept_none (length line) n ∙ sym (ap (kept_after (length line) n) u) ∙ r.keeps;
-    ended = sym e ∙ r.closes;
-    next = ap (λ (k : ℕ). at + k) (ap (λ (b : Bool). cond b 1 0) (sym e ∙ r.closes))
-        ∙ ap (λ (k : ℕ). k + cond (ends (drop from text)) 1 0) (omega (arith, ap length u, r.passed));
+pub line_at : (t : List ℕ) → Line t (position_or_len newline t)
+unfolding up_to ends
+line_at [] = record { upto = refl; most = omega arith; unended = λ h. refl; ended = λ h. absurd (omega arith) }
+line_at (b ∷ t) = go (eqb b 10) refl (line_at t) where
+  go : (s : Bool) → eqb b 10 ≡ s → Line t (prefix_len (λ x. not (newline x)) t) → Line (b ∷ t) (cond (not s) (1 + prefix_len (λ x. not (newline x)) t) 0)
+  go true e l = record { upto = simp e; most = omega arith; unended = λ h. absurd (omega arith); ended = λ h. simp e }
+  go false e l = record {
+    upto = simp (e, one-add, l.upto);
+    most = omega (arith, l.most);
+    unended = λ h. simp (e, l.unended (omega arith));
+    ended = λ h. simp (e, l.ended (omega arith));
   }
 
-  pub rest_newline : at < length text → get_or text at 0 ≡ 10 → Gathers text from line₀ kept (record { at = at + 1; kept = n; ended = true }) line
-  rest_newline h e = stop true (up_to_newline text at h e) (ends_newline text at h e)
+module _ {size : ℕ} {t line after : List ℕ} where
+  pub gathers_all : position newline t ≡ None → after ≡ take size (line ++ t) → Gathers size t line after None
+  gathers_all e h =
+      let l = line_at t in
+      let n : length t ≤ position_or_len newline t = grind arith in
+      record { line_after = rw (l.upto, take_all (position_or_len newline t) t n) h; next = simp (l.unended n) }
 
-  pub rest_end : length text ≤ at → Gathers text from line₀ kept (record { at = at; kept = n; ended = false }) line
-  rest_end h = rw (← add-zero at) (stop false (up_to_end text at h) (ends_end text at h))
+  pub gathers_part : {a b : List ℕ} → SplitsAt 10 t a b → after ≡ take size (line ++ a) → Gathers size t line after (Some b)
+  gathers_part {a} {b} s h =
+      let l = line_at t in
+      let (n, e) = cond_some (ltb (position_or_len newline t) (length t)) (position_or_len newline t) (length a) s.place in
+      let u : up_to t ≡ a = l.upto ∙ sym s.before in
+      record { line_after = rw u h; next = simp (l.ended (ltb-true _ _ n), u) (ap Some (s.behind ∙ ap (λ (k : ℕ). drop (k + 1) t) e)) }
+
+-- ---- what an answer says: the line has ended, and what follows its newline; or it has not
+
+pub gathers_ended : {size : ℕ} {t line after rest : List ℕ} → Gathers size t line after (Some rest) → (ends t ≡ true) × (rest ≡ drop (length (up_to t) + 1) t)
+gathers_ended {t = t} {rest = rest} g = go (ends t) g.next where
+  go : (s : Bool) → Some rest ≡ cond s (Some (drop (length (up_to t) + 1) t)) None → (s ≡ true) × (rest ≡ drop (length (up_to t) + 1) t)
+  go true n = (refl, cc)
+  go false n = cc
+
+pub gathers_open : {size : ℕ} {t line after : List ℕ} → Gathers size t line after None → ends t ≡ false
+gathers_open {t = t} g = go (ends t) g.next where
+  go : (s : Bool) → None ≡ cond s (Some (drop (length (up_to t) + 1) t)) None → s ≡ false
+  go true n = cc
+  go false n = refl

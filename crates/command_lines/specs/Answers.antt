@@ -1,6 +1,5 @@
 -- What `sheetmark` prints for a reply and for an answer, and where it stands in the output. Assumes nothing.
-use Rattle.std.specs.Prelude.{Bool, cond, List, [], ◌∷◌, ◌++◌, map, ℕ, zero, suc, ◌+◌, ◌/◌, ◌%◌, ◌^◌, length, leb, ltb}
-use Rattle.std.proofs.lemmas.List.Edits.{sets}
+use Rattle.std.specs.Prelude.{Bool, cond, List, [], ◌∷◌, ◌++◌, map, ℕ, zero, suc, ◌+◌, ◌/◌, ◌%◌, ◌^◌, length, leb, ltb, codes}
 use Rattle.positions.specs.Replies.{Reply, numbers, refused_with}
 use Rattle.command_lines.specs.declared.Answer.{Answer}
 use Rattle.command_lines.specs.declared.Answer.TheVariants.{Number, Nothing, Refused, BadLine}
@@ -27,30 +26,21 @@ digits_within (suc steps) n = cond (ltb n 10) ((48 + n) ∷ []) (digits_within s
 unfoldable pub digits : ℕ → List ℕ
 digits n = digits_within (suc n) n
 
--- `refused` and a space
-abbrev pub refused : List ℕ
-refused = 114 ∷ 101 ∷ 102 ∷ 117 ∷ 115 ∷ 101 ∷ 100 ∷ 32 ∷ []
-
 -- an answer's text: a number, `none`, `refused` and a number, or `bad line`
 abbrev pub text : Answer → List ℕ
 text (Number n) = digits n
-text Nothing = 110 ∷ 111 ∷ 110 ∷ 101 ∷ []
-text (Refused k) = refused ++ digits k
-text BadLine = 98 ∷ 97 ∷ 100 ∷ 32 ∷ 108 ∷ 105 ∷ 110 ∷ 101 ∷ []
+text Nothing = codes "none"
+text (Refused k) = codes "refused " ++ digits k
+text BadLine = codes "bad line"
 
 -- the line that is printed: the text and a newline
 abbrev pub printed : Answer → List ℕ
 printed a = text a ++ (10 ∷ [])
 
--- the output `out`, filled up to `used`, has room for any answer's line: `refused 255` and a newline are the longest, 12 bytes
-abbrev pub has_room : List ℕ → ℕ → Bool
-has_room out used = leb (used + 12) (length out)
+-- an output for `size` bytes that holds `held` has room for any answer's line: `refused 255` and a newline are the longest, 12 bytes
+abbrev pub has_room : ℕ → List ℕ → Bool
+has_room size held = leb (length held + 12) size
 
--- the output, filled up to `used`, once the answer is put there: `sets l i bs` is l with the bytes bs stored from index i on.
--- Where there is no room, nothing is stored
-abbrev pub out_after : List ℕ → ℕ → Answer → List ℕ
-out_after out used a = cond (has_room out used) (sets out used (printed a)) out
-
--- up to where the output is filled then
-abbrev pub used_after : List ℕ → ℕ → Answer → ℕ
-used_after out used a = cond (has_room out used) (used + length (printed a)) used
+-- what it holds once the answer is put there. Where there is no room, nothing is put
+abbrev pub out_after : ℕ → List ℕ → Answer → List ℕ
+out_after size held a = cond (has_room size held) (held ++ printed a) held

@@ -3,15 +3,21 @@
 // callers: no entry has a `requires`.
 #![tactic(auto)]
 
-ghost use Rattle.std.specs.Prelude.{◌≡◌, [], ◌∷◌, ◌++◌, ◌+◌, ◌≤◌, ◌<◌, length, drop, set};
-ghost use Rattle.std.proofs.lemmas.List.Edits.{sets};
-ghost use Rattle.command_lines.specs.Lines.{fields, meaning, pair, with};
-ghost use Rattle.command_lines.specs.Inner.{starts, read_at, finish, keyword_of};
-ghost use Rattle.command_lines.specs.Answers.{digits, out_after, used_after};
-ghost use Rattle.command_lines.specs.Input.{Gathers, kept_next};
+ghost use Rattle.std.specs.Prelude.{◌≡◌, [], ◌∷◌, ◌++◌, ◌+◌, ◌≤◌, ◌<◌, cond, length, take, position, MatchOption, option_copied, ◌==◌};
+ghost use Rattle.positions.specs.Positions.{one};
+ghost use Rattle.positions.specs.Replies.{number};
+ghost use Rattle.answers.specs.Refusals.{of_result, of_position};
+ghost use Rattle.command_lines.specs.Lines.{fields, is_number, value, pair, alone, with, meaning};
+ghost use Rattle.command_lines.specs.Inner.{SplitsAt};
+ghost use Rattle.command_lines.specs.Answers.{answer_of, low32, text, out_after};
+ghost use Rattle.command_lines.specs.Input.{Gathers};
 
-// What a line asks for: `new` with capacity and journal length, the calls with start and end, or none of these.
-#[derive(Clone, Copy)]
+use answers::Refusal;
+use arrayvec::ArrayVec;
+use itoa::Buffer;
+
+// What a line asks for: `new` with capacity and journal length, or a call, most with start and end.
+#[derive(Clone, Copy, Debug, PartialEq, Eq)]
 pub enum Command {
     New(u32, u32),
     Mark(u32, u32),
@@ -21,18 +27,10 @@ pub enum Command {
     Zero(u32, u32),
     Back,
     Wipe,
-    Bad,
 }
 
-// The two numbers of a line, or not two numbers.
-#[derive(Clone, Copy)]
-enum Pair {
-    Both(u32, u32),
-    Not,
-}
-
-// What is printed.
-#[derive(Clone, Copy)]
+// What is printed. A refusal is the number that stands in its line.
+#[derive(Clone, Copy, Debug, PartialEq, Eq)]
 pub enum Answer {
     Number(u32),
     Nothing,
@@ -40,260 +38,180 @@ pub enum Answer {
     BadLine,
 }
 
-// A field that is a number, and where it ends; or no number.
-#[derive(Clone, Copy)]
-enum Field {
-    Number(u32, usize),
-    Other,
+// What is printed for what the library answers: a count.
+impl From<Result<u32, Refusal>> for Answer {
+    ghost from_gives = { λ counted printed. printed ≡ answer_of (of_result number counted) };
+
+    fn from(counted: Result<u32, Refusal>) -> Answer {
+        match counted {
+            Ok(n) => Answer::Number(n),
+            Err(refusal) => Answer::Refused(refusal.into()),
+        }
+    }
 }
 
-// The keywords that two numbers follow.
-#[derive(Clone, Copy)]
-enum Keyword {
-    New,
-    Mark,
-    Clear,
-    Count,
-    One,
-    Zero,
+// A truth: 1 for yes, 0 for no.
+impl From<Result<bool, Refusal>> for Answer {
+    ghost from_gives = { λ tested printed. printed ≡ answer_of (of_result (λ b. number (one b)) tested) };
+
+    fn from(tested: Result<bool, Refusal>) -> Answer {
+        Answer::from(tested.map(u32::from))
+    }
+}
+
+// A place. A position is below the capacity, so that 32 bits hold it; any other number is cut to them.
+impl From<Result<Option<usize>, Refusal>> for Answer {
+    ghost from_gives = { λ found printed. printed ≡ answer_of (low32 (of_result of_position found)) };
+
+    fn from(found: Result<Option<usize>, Refusal>) -> Answer {
+        match found {
+            Ok(Some(i)) => Answer::Number((i % 0x1_0000_0000) as u32),
+            Ok(None) => Answer::Nothing,
+            Err(refusal) => Answer::Refused(refusal.into()),
+        }
+    }
 }
 
 // ---- what a line means
 
-// Whether the line starts with the bytes of `start`.
-fn starts_with(line: &[u8], start: &[u8]) -> bool
-    ensures { result ≡ starts start.now line.now }
+// The index of the first such byte.
+fn find(text: &[u8], byte: u8) -> Option<usize>
+    ensures { result ≡ position (λ b. b == byte) text.now }
 {
-    let mut i = 0;
-    while i < start.len() {
-        if i >= line.len() {
-            return false;
-        }
-        if line[i] != start[i] {
-            return false;
-        }
-        i += 1;
-    }
-    true
+    text.iter().position(|b| *b == byte)
 }
 
-// The number of the `at - from` digits that end at `at`, if there is one digit at least and the number is below 2^32.
-fn field_of(value: u64, from: usize, at: usize) -> Field
-    ensures { result ≡ finish from at value }
+// The text before the first such byte, and the text behind it.
+fn split_once(text: &[u8], byte: u8) -> Option<(&[u8], &[u8])>
+    ensures { MatchOption result (position (λ b. b == byte) text.now ≡ None) (λ p. SplitsAt byte text.now p.0.now p.1.now) }
 {
-    if at == from {
-        return Field::Other;
-    }
-    if value > 4294967295 {
-        return Field::Other;
-    }
-    Field::Number(value as u32, at)
+    let at = find(text, byte)?;
+    Some((&text[..at], &text[at + 1..]))
 }
 
-// The field that starts at `from`, up to a space or the line's end.
-fn number(line: &[u8], from: usize) -> Field
-    ensures { result ≡ read_at from (drop from line.now) }
+// The number that a field is.
+fn number(field: &[u8]) -> Option<u32>
+    ensures { result ≡ cond (is_number field.now) (Some (value field.now)) None }
 {
-    let mut at = from;
+    if field.is_empty() || field.len() > 10 {
+        return None;
+    }
     let mut value = 0u64;
-    while at < line.len() {
-        let b = line[at];
-        if b == b' ' {
-            return field_of(value, from, at);
+    for b in field {
+        if !b.is_ascii_digit() {
+            return None;
         }
-        if b < b'0' {
-            return Field::Other;
-        }
-        if b > b'9' {
-            return Field::Other;
-        }
-        if at - from == 10 {
-            return Field::Other;
-        }
-        value = value * 10 + (b - b'0') as u64;
-        at += 1;
+        value = value * 10 + u64::from(b - b'0');
     }
-    field_of(value, from, at)
+    u32::try_from(value).ok()
 }
 
-// The two numbers that the text from `from` on consists of.
-fn numbers(line: &[u8], from: usize) -> Pair
-    ensures { result ≡ pair (fields (drop from line.now)) }
+// The two numbers that a text consists of.
+fn two_numbers(text: &[u8]) -> Option<(u32, u32)>
+    ensures { result ≡ pair (fields text.now) }
 {
-    let first = number(line, from);
-    let Field::Number(a, mid) = first else {
-        return Pair::Not;
-    };
-    if mid >= line.len() {
-        return Pair::Not;
-    }
-    let second = number(line, mid + 1);
-    let Field::Number(b, end) = second else {
-        return Pair::Not;
-    };
-    if end < line.len() {
-        return Pair::Not;
-    }
-    Pair::Both(a, b)
+    let (first, second) = split_once(text, b' ')?;
+    Some((number(first)?, number(second)?))
 }
 
-// The command of a keyword with the two numbers that follow it.
-fn with_numbers(keyword: Keyword, numbers: Pair) -> Command
-    ensures { result ≡ with (keyword_of keyword) numbers }
+// The command of a keyword alone.
+fn lone_command(keyword: &[u8]) -> Option<Command>
+    ensures { result ≡ alone keyword.now }
 {
-    let Pair::Both(a, b) = numbers else {
-        return Command::Bad;
-    };
     match keyword {
-        Keyword::New => Command::New(a, b),
-        Keyword::Mark => Command::Mark(a, b),
-        Keyword::Clear => Command::Clear(a, b),
-        Keyword::Count => Command::Count(a, b),
-        Keyword::One => Command::One(a, b),
-        Keyword::Zero => Command::Zero(a, b),
+        b"back" => Some(Command::Back),
+        b"wipe" => Some(Command::Wipe),
+        _ => None,
     }
 }
 
-// What a line means. The line comes without its newline.
-pub fn parse(line: &[u8]) -> Command
+// The command of a keyword with its two numbers.
+fn command_with(keyword: &[u8], a: u32, b: u32) -> Option<Command>
+    ensures { result ≡ with keyword.now (Some (a, b)) }
+{
+    match keyword {
+        b"new" => Some(Command::New(a, b)),
+        b"mark" => Some(Command::Mark(a, b)),
+        b"clear" => Some(Command::Clear(a, b)),
+        b"count" => Some(Command::Count(a, b)),
+        b"one" => Some(Command::One(a, b)),
+        b"zero" => Some(Command::Zero(a, b)),
+        _ => None,
+    }
+}
+
+// What a line means; None where it is bad. The line comes without its newline.
+pub fn parse(line: &[u8]) -> Option<Command>
     ensures { result ≡ meaning line.now }
 {
-    if starts_with(line, b"mark ") {
-        return with_numbers(Keyword::Mark, numbers(line, 5));
-    }
-    if starts_with(line, b"clear ") {
-        return with_numbers(Keyword::Clear, numbers(line, 6));
-    }
-    if starts_with(line, b"count ") {
-        return with_numbers(Keyword::Count, numbers(line, 6));
-    }
-    if starts_with(line, b"one ") {
-        return with_numbers(Keyword::One, numbers(line, 4));
-    }
-    if starts_with(line, b"zero ") {
-        return with_numbers(Keyword::Zero, numbers(line, 5));
-    }
-    if starts_with(line, b"new ") {
-        return with_numbers(Keyword::New, numbers(line, 4));
-    }
-    if line.len() != 4 {
-        return Command::Bad;
-    }
-    if starts_with(line, b"back") {
-        return Command::Back;
-    }
-    if starts_with(line, b"wipe") {
-        return Command::Wipe;
-    }
-    Command::Bad
+    let Some((keyword, rest)) = split_once(line, b' ') else {
+        return lone_command(line);
+    };
+    let (a, b) = two_numbers(rest)?;
+    command_with(keyword, a, b)
 }
 
 // ---- what is printed
 
-// Puts the bytes of `text` into the output at `at`, and answers where they end.
-fn put(out: &mut [u8], at: usize, text: &[u8]) -> usize
-    requires { at + length text.now ≤ length out.old }
-    ensures end { result ≡ at + length text.now }
-    ensures stored { out.new ≡ sets out.old at text.now }
+// Puts the bytes of `text` behind what the output holds.
+fn put<const N: usize>(out: &mut ArrayVec<u8, N>, text: &[u8])
+    requires { length out.old.items + length text.now ≤ N }
+    ensures { out.new.items ≡ out.old.items ++ text.now }
 {
-    let mut i = 0;
-    while i < text.len() {
-        out[at + i] = text[i];
-        i += 1;
-    }
-    at + i
+    let _ = out.try_extend_from_slice(text);
 }
 
-// Puts the digits of n into the output at `at`, and answers where they end.
-fn put_number(out: &mut [u8], at: usize, n: u32) -> usize
-    requires { at + length (digits n) ≤ length out.old }
-    ensures end { result ≡ at + length (digits n) }
-    ensures stored { out.new ≡ sets out.old at (digits n) }
+// Puts an answer's text behind what the output holds. The longest is `refused 255`.
+#[tactic(auto, using(crate::proofs::Decimals::digits_decimal, std::proofs::Common::append_assoc))]
+fn put_text<const N: usize>(out: &mut ArrayVec<u8, N>, answer: Answer)
+    requires { length out.old.items + 11 ≤ N }
+    ensures stored { out.new.items ≡ out.old.items ++ text answer }
+    ensures bounded { length out.new.items ≤ length out.old.items + 11 }
 {
-    if n < 10 {
-        out[at] = b'0' + (n as u8);
-        return at + 1;
-    }
-    let last = put_number(out, at, n / 10);
-    out[last] = b'0' + ((n % 10) as u8);
-    last + 1
-}
-
-// Puts the digits of n and a newline into the output at `at`, and answers where they end.
-fn put_number_line(out: &mut [u8], at: usize, n: u32) -> usize
-    requires { at + length (digits n) < length out.old }
-    ensures end { result ≡ at + length (digits n ++ (10 ∷ [])) }
-    ensures stored { out.new ≡ sets out.old at (digits n ++ (10 ∷ [])) }
-{
-    let end = put_number(out, at, n);
-    out[end] = b'\n';
-    end + 1
-}
-
-// Puts an answer's line into the output, which is filled up to `used`, and answers up to where it is filled then. The longest
-// line is `refused 255` and a newline, 12 bytes. Where fewer are free, nothing is put.
-pub fn put_answer(out: &mut [u8], used: usize, answer: Answer) -> usize
-    ensures filled { result ≡ used_after out.old used answer }
-    ensures stored { out.new ≡ out_after out.old used answer }
-    ensures bounded { result ≤ used + 12 }
-{
-    if out.len() < 12 || used > out.len() - 12 {
-        return used;
-    }
+    let mut digits = Buffer::new();
     match answer {
-        Answer::Number(n) => put_number_line(out, used, n),
-        Answer::Nothing => put(out, used, b"none\n"),
+        Answer::Number(n) => put(out, digits.format(n).as_bytes()),
+        Answer::Nothing => put(out, b"none"),
         Answer::Refused(k) => {
-            let mid = put(out, used, b"refused ");
-            put_number_line(out, mid, k as u32)
+            put(out, b"refused ");
+            put(out, digits.format(k).as_bytes());
         }
-        Answer::BadLine => put(out, used, b"bad line\n"),
+        Answer::BadLine => put(out, b"bad line"),
     }
+}
+
+// Puts an answer's line behind what the output holds. The longest line is `refused 255` and a newline, 12 bytes. Where fewer are
+// free, nothing is put.
+pub fn put_answer<const N: usize>(out: &mut ArrayVec<u8, N>, answer: Answer)
+    ensures stored { out.new.items ≡ out_after N out.old.items answer }
+    ensures bounded { length out.new.items ≤ length out.old.items + 12 }
+{
+    if out.remaining_capacity() < 12 {
+        return;
+    }
+    put_text(out, answer);
+    put(out, b"\n");
 }
 
 // ---- lines from input in parts
 
-// Where gathering stopped: the next byte of the input, how far the buffer is filled, and whether the line has ended.
-#[derive(Clone, Copy)]
-pub struct Gathered {
-    pub at: usize,
-    pub kept: usize,
-    pub ended: bool,
+// Moves the bytes of the input into the line buffer, up to a newline or the input's end; those that the buffer has no room for
+// are lost. Answers what follows the newline, or None where the line has not ended.
+pub fn gather<'a, const N: usize>(text: &'a [u8], line: &mut ArrayVec<u8, N>) -> Option<&'a [u8]>
+    ensures { Gathers N text.now line.old.items line.new.items (option_copied result) }
+{
+    let Some((part, rest)) = split_once(text, b'\n') else {
+        keep(line, text);
+        return None;
+    };
+    keep(line, part);
+    Some(rest)
 }
 
-// Stores a byte behind the kept ones where the buffer has room, and answers how many are kept then.
-fn keep(line: &mut [u8], kept: usize, b: u8) -> usize
-    ensures kept { result ≡ kept_next (length line.old) kept }
-    ensures stored { line.new ≡ set line.old kept b }
+// Stores the bytes behind the kept ones, as many as there is room for.
+fn keep<const N: usize>(line: &mut ArrayVec<u8, N>, part: &[u8])
+    ensures { line.new.items ≡ take N (line.old.items ++ part.now) }
 {
-    if kept < line.len() {
-        line[kept] = b;
-        return kept + 1;
-    }
-    kept
-}
-
-// Moves the bytes of the input from `from` on into the line buffer, up to a newline or the input's end.
-pub fn gather(text: &[u8], from: usize, line: &mut [u8], kept: usize) -> Gathered
-    ensures { Gathers text.now from line.old kept result line.new }
-{
-    let mut at = from;
-    let mut n = kept;
-    while at < text.len() {
-        let b = text[at];
-        at += 1;
-        if b == b'\n' {
-            return Gathered {
-                at,
-                kept: n,
-                ended: true,
-            };
-        }
-        n = keep(line, n, b);
-    }
-    Gathered {
-        at,
-        kept: n,
-        ended: false,
-    }
+    let room = part.len().min(line.remaining_capacity());
+    let _ = line.try_extend_from_slice(&part[..room]);
 }

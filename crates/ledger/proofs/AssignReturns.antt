@@ -5,13 +5,15 @@ use Rattle.positions.specs.Positions.{Positions, assigned}
 use Rattle.positions.specs.Runs.{changed_runs}
 use Rattle.range_bitset.proofs.Slots.{past_same}
 use Rattle.range_bitset.specs.Represents.{Represents, capacity_of}
-use Rattle.positions.specs.Replies.{refusal}
-use Rattle.range_bitset.specs.Answers.{of_counted, range_refusal}
+use Rattle.positions.specs.Replies.{refusal, number}
+use Rattle.std.proofs.Common.{Ok, Err}
+use Rattle.answers.specs.Refusals.{number_of}
+use Rattle.answers.specs.declared.Refusal.{Refusal}
+use Rattle.answers.specs.declared.Changed.{Changed}
+use Rattle.answers.proofs.Numbers.{number_some}
+use Rattle.range_bitset.specs.Answers.{range_refusal}
 use Rattle.range_bitset.specs.Entries.{AssignEnsures}
 use Rattle.range_bitset.specs.declared.RangeBitset.{RangeBitset}
-use Rattle.range_bitset.specs.declared.Assigned.{Assigned}
-use Rattle.range_bitset.specs.declared.Counted.{Counted}
-use Rattle.range_bitset.specs.declared.Counted.TheVariants as counted
 use Rattle.range_bitset.proofs.AcceptedHeads.{range_accepts}
 use Rattle.ledger.specs.Machine.{Machine, range, set_of, used, need_of, step, next_of}
 use Rattle.ledger.specs.Journal.{journal_of}
@@ -21,7 +23,7 @@ use Rattle.set_runs.specs.Walks.{RunsFit}
 use Rattle.ledger.specs.Inner.{WritesCall}
 use Rattle.ledger.specs.declared.Ledger.{Ledger}
 use Rattle.ledger.proofs.Machines.{stayed, went, step_outside, step_full, step_range, reachable_step, set_after_range, needs_added, journal_added}
-use Rattle.ledger.proofs.Refusals.{declined_as, refused_call, LentEnough, lent_accepted, set_accepts, lent_again}
+use Rattle.ledger.proofs.Refusals.{refused_call, LentEnough, lent_accepted, set_accepts, lent_again}
 
 module _ (h : Ledger) (st j : List ℕ) (a e : ℕ) (v : Bool) where
   -- ---- the refusals of the table
@@ -54,27 +56,23 @@ module _ (h : Ledger) (st j : List ℕ) (a e : ℕ) (v : Bool) where
 
   -- ---- refused: nothing is changed
 
-  pub not_lent : (k : ℕ) (r : Counted) (h' : Ledger) → r ≡ counted.Refused k → h' ≡ h → k ≡ lent_refusal h (length st) (length j) → (k ≡ 0 → ⊥)
-      → CallEnsures (range a e v) before (of_counted r) (memory h' st j)
-  not_lent k r h' p q l n =
-      declined_as (range a e v) h st j k r h' p q
-      (refused_call (range a e v) before k (sym (call_lent k l n)) n (λ m x. absurd (n (l ∙ x.lent))))
+  pub not_lent : (k : Refusal) → number_of k ≡ lent_refusal h (length st) (length j) → CallEnsures (range a e v) before (refusal (number_of k)) before
+  not_lent k l =
+      refused_call (range a e v) before (number_of k) (sym (call_lent (number_of k) l (number_some k))) (number_some k)
+      (λ m x. absurd (number_some k (l ∙ x.lent)))
 
-  pub outside : (r : Counted) (h' : Ledger) → r ≡ counted.Refused 4 → h' ≡ h → lent_refusal h (length st) (length j) ≡ 0 → capacity_of h.set < e
-      → CallEnsures (range a e v) before (of_counted r) (memory h' st j)
-  outside r h' p q l n =
-      declined_as (range a e v) h st j 4 r h' p q
-      (refused_call (range a e v) before 4 (sym (call_outside l n)) (λ z. omega arith)
-      (λ m x. step_outside m a e v (omega (arith, x.capacity))))
+  pub outside : lent_refusal h (length st) (length j) ≡ 0 → capacity_of h.set < e → CallEnsures (range a e v) before (refusal 4) before
+  outside l n =
+      refused_call (range a e v) before 4 (sym (call_outside l n)) (λ z. omega arith)
+      (λ m x. step_outside m a e v (omega (arith, x.capacity)))
 
   -- more numbers are needed than the journal has left
-  full : (r : Counted) (h' : Ledger) → r ≡ counted.Refused 6 → h' ≡ h → lent_refusal h (length st) (length j) ≡ 0 → e ≤ capacity_of h.set
+  full : lent_refusal h (length st) (length j) ≡ 0 → e ≤ capacity_of h.set
       → ((call_refusal (range a e v) before ≡ 0 → ⊥) → call_refusal (range a e v) before ≡ 6)
       → ((s : Positions) → Represents h.set st s → h.journal - h.used < need_of s a e v) → (most_need (range a e v) ≤ h.journal - h.used → ⊥)
-      → CallEnsures (range a e v) before (of_counted r) (memory h' st j)
-  full r h' p q l n six more some =
-      declined_as (range a e v) h st j 6 r h' p q
-      (record {
+      → CallEnsures (range a e v) before (refusal 6) before
+  full l n six more some =
+      record {
         refuses = λ z. ap refusal (sym (six z));
         only_6 = λ z. inr (refl, refl);
         exactly_6 = λ z s x. sym (ap (λ (b : Bool). cond b 0 6) (lt-leb (need_of s a e v) (h.journal - h.used) (more s x)));
@@ -88,38 +86,39 @@ module _ (h : Ledger) (st j : List ℕ) (a e : ℕ) (v : Bool) where
         answers = λ m x. rw (stays m x);
         holds = λ m x. rw (stays m x) x;
         flag = λ m x. refl;
-      })
+      }
     where
       stays : (m : Machine) → Holds before m → step m (range a e v) ≡ stayed m 6
       stays m x = step_full m a e v (omega (arith, x.capacity)) (omega (arith, x.journal_length, x.in_use, more (set_of m) x.set))
 
   -- none is left
-  pub none_left : (r : Counted) (h' : Ledger) → r ≡ counted.Refused 6 → h' ≡ h → lent_refusal h (length st) (length j) ≡ 0 → e ≤ capacity_of h.set
-      → h.used ≡ h.journal → CallEnsures (range a e v) before (of_counted r) (memory h' st j)
+  pub none_left : lent_refusal h (length st) (length j) ≡ 0 → e ≤ capacity_of h.set → h.used ≡ h.journal → CallEnsures (range a e v) before (refusal 6) before
   unfolding need_of
-  none_left r h' p q l n o =
-      full r h' p q l n (λ z. call_none_left l n o) (λ s x. omega arith) (λ w. omega arith)
+  none_left l n o = full l n (λ z. call_none_left l n o) (λ s x. omega arith) (λ w. omega arith)
 
   -- more runs than fit
-  pub too_many : (most : ℕ) (fit : Bool) (r : Counted) (h' : Ledger) → r ≡ counted.Refused 6 → h' ≡ h → lent_refusal h (length st) (length j) ≡ 0
+  pub too_many : (most : ℕ) (fit : Bool) → lent_refusal h (length st) (length j) ≡ 0
       → e ≤ capacity_of h.set → (h.used ≡ h.journal → ⊥) → most ≡ (h.journal - h.used - 1) / 2 → RunsFit h.set st a e v most fit → fit ≡ false
-      → CallEnsures (range a e v) before (of_counted r) (memory h' st j)
+      → CallEnsures (range a e v) before (refusal 6) before
   unfolding need_of
-  too_many most fit r h' p q l n some o c d =
-      full r h' p q l n (λ z. absurd (z (call_passes l n some)))
+  too_many most fit l n some o c d =
+      full l n (λ z. absurd (z (call_passes l n some)))
       (λ s x. omega (arith, leb-false (length (changed_runs s a e v)) most (sym (c.fits (accepted l n) s x) ∙ d)))
       (λ w. true≢false (sym (c.short (omega arith)) ∙ d))
 
-  -- ---- done: the runs are recorded, then the range is given its value
+  -- ---- done: the runs are recorded, then the range is given its value, which the set does not refuse
+
+  pub not_refused : lent_refusal h (length st) (length j) ≡ 0 → e ≤ capacity_of h.set → (k : Refusal) (st' : List ℕ) → AssignEnsures h.set st a e v (Err k) st' → ⊥
+  not_refused p n k st' q = q.accepts (accepted p n)
 
   -- the head afterwards
   abbrev pub moved : RangeBitset → ℕ → Ledger
   moved set u' = record { set = set; journal = h.journal; used = u' }
 
-  module _ (u' most : ℕ) (j' st' : List ℕ) (r : Assigned) (lent : lent_refusal h (length st) (length j) ≡ 0)
+  module _ (u' most : ℕ) (j' st' : List ℕ) (d : Changed ℕ RangeBitset) (lent : lent_refusal h (length st) (length j) ≡ 0)
       (end_within : e ≤ capacity_of h.set) (some : h.used ≡ h.journal → ⊥) (most_is : most ≡ (h.journal - h.used - 1) / 2)
       (fit : Bool) (fits : RunsFit h.set st a e v most fit) (all_fit : fit ≡ true) (writes : WritesCall h.set st a e v h.used most u' j j')
-      (same_journal : length j' ≡ length j) (changes : AssignEnsures h.set st a e v r st') (same_storage : length st' ≡ length st) where
+      (same_journal : length j' ≡ length j) (changes : AssignEnsures h.set st a e v (Ok d) st') (same_storage : length st' ≡ length st) where
     enough : LentEnough h h.journal (length st) (length j)
     enough = lent_accepted h h.journal (length st) (length j) lent
 
@@ -141,9 +140,9 @@ module _ (h : Ledger) (st j : List ℕ) (a e : ℕ) (v : Bool) where
         (omega (arith, x.journal_length, x.in_use, room, need_is (set_of m) x.set))
 
     abbrev next : Memory
-    next = memory (moved r.head u') st' j'
+    next = memory (moved d.head u') st' j'
 
-    set_next : (m : Machine) → Holds before m → Represents r.head st' (assigned (set_of m) a e v)
+    set_next : (m : Machine) → Holds before m → Represents d.head st' (assigned (set_of m) a e v)
     set_next m x = changes.represents passes (set_of m) x.set
 
     in_use_next : (m : Machine) → Holds before m → u' ≡ used (next_of m (range a e v))
@@ -161,7 +160,7 @@ module _ (h : Ledger) (st j : List ℕ) (a e : ℕ) (v : Bool) where
     holds_next m x =
         record {
           reachable = rw (goes m x) at (reachable_step m (range a e v) x.reachable);
-          lent = lent_again h (moved r.head u') (length st) (length j) (length st') (length j') st' (assigned (set_of m) a e v) enough
+          lent = lent_again h (moved d.head u') (length st) (length j) (length st') (length j') st' (assigned (set_of m) a e v) enough
               changes.same_words (set_next m x) refl room same_storage same_journal;
           capacity = ap (λ (n : ℕ). 64 * n) changes.same_words ∙ x.capacity;
           journal_length = x.journal_length;
@@ -170,18 +169,17 @@ module _ (h : Ledger) (st j : List ℕ) (a e : ℕ) (v : Bool) where
           journal = journal_next m x;
         }
 
-    flag_next : (m : Machine) → Holds before m → r.head.allocated ≡ flag_after h.set.allocated m (range a e v) (of_counted r.answer)
+    flag_next : (m : Machine) → Holds before m → d.head.allocated ≡ flag_after h.set.allocated m (range a e v) (number d.answer)
     flag_next m x =
-        rw (changes.answers passes (set_of m) x.set)
-        (ap (λ (y : RangeBitset). y.allocated) (changes.head passes (set_of m) x.set))
+        ap (λ (y : RangeBitset). y.allocated) (changes.head passes (set_of m) x.set)
 
-    pub recorded : CallEnsures (range a e v) before (of_counted r.answer) next
+    pub recorded : CallEnsures (range a e v) before (number d.answer) next
     recorded =
         record {
           refuses = λ z. absurd (z (call_passes lent end_within some));
           only_6 = λ z. inl (changes.accepts passes);
           exactly_6 = λ z s x.
-              accepted_refused (of_counted r.answer) (changes.accepts passes)
+              accepted_refused (number d.answer) (changes.accepts passes)
               ∙ sym (ap (λ (b : Bool). cond b 0 6) (le-leb (need_of s a e v) (h.journal - h.used) (omega (arith, room, need_is s x))));
           short_6 = λ z o. changes.accepts passes;
           unchanged = λ z. absurd (z (changes.accepts passes));

@@ -9,18 +9,20 @@ use Rattle.range_bitset.proofs.AcceptedHeads.{good_bounds}
 use Rattle.range_bitset.proofs.Slots.{past_same}
 use Rattle.range_bitset.specs.Represents.{Represents, capacity_of}
 use Rattle.positions.specs.Replies.{number, refusal}
-use Rattle.range_bitset.specs.Answers.{of_counted, storage_refusal}
+use Rattle.range_bitset.specs.Answers.{storage_refusal}
 use Rattle.range_bitset.specs.Entries.{ClearEnsures}
 use Rattle.range_bitset.specs.declared.RangeBitset.{RangeBitset}
-use Rattle.range_bitset.specs.declared.Assigned.{Assigned}
 use Rattle.ledger.specs.Machine.{Machine, Standing, back, wipe, held, set_of, population, needs, used, standing_call, Stands, StandAll, with_standing, step}
 use Rattle.ledger.specs.Journal.{entry, journal_of}
 use Rattle.ledger.specs.Memory.{Memory, memory, Holds, lent_refusal, wipe_refusal, call_refusal}
 use Rattle.ledger.specs.Entries.{CallEnsures, restores}
 use Rattle.ledger.specs.Inner.{last_of, read_runs, changed_by_runs, Within, AssignsRuns}
 use Rattle.ledger.specs.declared.Ledger.{Ledger}
-use Rattle.ledger.specs.declared.Last.{Last}
-use Rattle.ledger.specs.declared.Last.TheVariants as last
+use Rattle.std.proofs.Common.{Option, Some, None, Ok, Err}
+use Rattle.answers.specs.Refusals.{number_of}
+use Rattle.answers.specs.declared.Refusal.{Refusal}
+use Rattle.answers.specs.declared.Changed.{Changed}
+use Rattle.answers.proofs.Numbers.{number_some}
 use Rattle.ledger.proofs.Machines.{standing_entry, reachable_fresh, reachable_step, step_none, step_back, none_standing, set_after_back, journal_length}
 use Rattle.ledger.proofs.Journals.{length_entry, entry_last, packed_runs, packed_value, read_entry}
 use Rattle.ledger.proofs.ReassignedRuns.{read_take, changed_within, any_lengths, back_count}
@@ -33,26 +35,32 @@ needs_none n = sym (ap (λ (b : Bool). cond b 0 6) (le-leb 0 n (omega arith)))
 -- ---- `wipe`
 
 module _ (h : Ledger) (st j : List ℕ) where
-  pub wipe_refused : (k : ℕ) → k ≡ wipe_refusal h (length st) → (k ≡ 0 → ⊥) → CallEnsures wipe (memory h st j) (refusal k) (memory h st j)
+  pub wipe_refused : (k : Refusal) → number_of k ≡ wipe_refusal h (length st) → CallEnsures wipe (memory h st j) (refusal (number_of k)) (memory h st j)
   unfolding call_refusal
-  wipe_refused k e z =
-      refused_call wipe (memory h st j) k e z
+  wipe_refused k e =
+      refused_call wipe (memory h st j) (number_of k) e (number_some k)
       (λ m q.
       let a = lent_accepted h h.journal (length st) (length j) q.lent in
-      absurd (z (e ∙ lent_wipes h h.journal (length st) (length j) a)))
+      absurd (number_some k (e ∙ lent_wipes h h.journal (length st) (length j) a)))
 
-  module _ (r : Assigned) (st' : List ℕ) (z : wipe_refusal h (length st) ≡ 0) (e : ClearEnsures h.set st r st')
+  cleared : wipe_refusal h (length st) ≡ 0 → ◌≡◌ {A = ℕ} (storage_refusal h.set (length st)) 0
+  cleared z = set_accepts h 0 (length st) 0 (lent_accepted h 0 (length st) 0 z)
+
+  pub not_refused : wipe_refusal h (length st) ≡ 0 → (k : Refusal) (st' : List ℕ) → ClearEnsures h.set st (Err k) st' → ⊥
+  not_refused z k st' e = e.accepts (cleared z)
+
+  module _ (d : Changed ℕ RangeBitset) (st' : List ℕ) (z : wipe_refusal h (length st) ≡ 0) (e : ClearEnsures h.set st (Ok d) st')
       (long : length st' ≡ length st) where
     ok : ◌≡◌ {A = ℕ} (storage_refusal h.set (length st)) 0
-    ok = set_accepts h 0 (length st) 0 (lent_accepted h 0 (length st) 0 z)
+    ok = cleared z
 
-    pub wiped : CallEnsures wipe (memory h st j) (of_counted r.answer) (memory (record { set = r.head; journal = h.journal; used = 0 }) st' j)
+    pub wiped : CallEnsures wipe (memory h st j) (number d.answer) (memory (record { set = d.head; journal = h.journal; used = 0 }) st' j)
     unfolding call_refusal population set_of used step
     wiped =
         record {
           refuses = λ w. absurd (w z);
           only_6 = λ w. inl (e.accepts ok);
-          exactly_6 = λ w s q. accepted_refused (of_counted r.answer) (e.accepts ok) ∙ needs_none (h.journal - h.used);
+          exactly_6 = λ w s q. accepted_refused (number d.answer) (e.accepts ok) ∙ needs_none (h.journal - h.used);
           short_6 = λ w o. e.accepts ok;
           unchanged = λ w. absurd (w (e.accepts ok));
           same_words = e.same_words;
@@ -77,24 +85,17 @@ module _ (h : Ledger) (st j : List ℕ) where
 
 -- ---- the call that the last of u numbers closes
 
-module _ (j : List ℕ) (u : ℕ) where
-  pub last_none : u ≡ 0 → last.NoCall ≡ last_of j u
-  unfolding last_of
-  last_none e = rw (eq-eqb u 0 e)
+pub last_none : (j : List ℕ) (u : ℕ) → u ≤ length j → length (take u j) ≤ 0 → None ≡ last_of j u
+unfolding last_of
+last_none j u l z = let e : u ≡ 0 = omega (arith, length-take-le u j l) in rw (eq-eqb u 0 e)
 
-  pub last_few : (u ≡ 0 → ⊥) → get_or j (u - 1) 0 / 2 ≤ (u - 1) / 2
-      → last.Standing (get_or j (u - 1) 0 / 2) (eqb (get_or j (u - 1) 0 % 2) 1) ≡ last_of j u
-  unfolding last_of
-  last_few z l =
-      let q : min (get_or j (u - 1) 0 / 2) ((u - 1) / 2) ≡ get_or j (u - 1) 0 / 2 = omega arith in
-      rw (ne_eqb u 0 z, q)
-
-  pub last_many : (u ≡ 0 → ⊥) → (u - 1) / 2 < get_or j (u - 1) 0 / 2
-      → last.Standing ((u - 1) / 2) (eqb (get_or j (u - 1) 0 % 2) 1) ≡ last_of j u
-  unfolding last_of
-  last_many z l =
-      let q : min (get_or j (u - 1) 0 / 2) ((u - 1) / 2) ≡ (u - 1) / 2 = omega arith in
-      rw (ne_eqb u 0 z, q)
+pub last_some : (j : List ℕ) (u x n : ℕ) → u ≤ length j → 0 < length (take u j) → x ≡ get_or (take u j) (length (take u j) - 1) 0 → n ≡ min (x / 2) ((u - 1) / 2)
+    → Some (n, eqb (x % 2) 1) ≡ last_of j u
+unfolding last_of
+last_some j u x n l z e m =
+    let k : length (take u j) ≡ u = length-take-le u j l in
+    let q : x ≡ get_or j (u - 1) 0 = e ∙ ap (λ (i : ℕ). get_or (take u j) (i - 1) 0) k ∙ get_or-take u j (u - 1) 0 (omega arith) in
+    rw (ne_eqb u 0 (λ y. omega arith), m, q)
 
 -- what it is, where there is one
 pub record LastRead (j : List ℕ) (u n : ℕ) (v : Bool) : Type 0 where
@@ -103,27 +104,27 @@ pub record LastRead (j : List ℕ) (u n : ℕ) (v : Bool) : Type 0 where
   pub value_is : v ≡ eqb (get_or j (u - 1) 0 % 2) 1
   pub fits : 2 * n + 1 ≤ u
 
-pub last_read : (j : List ℕ) (u : ℕ) (r : Last) (n : ℕ) (v : Bool) → r ≡ last_of j u → r ≡ last.Standing n v → LastRead j u n v
+pub last_read : (j : List ℕ) (u : ℕ) (r : ℕ × Bool) → Some r ≡ last_of j u → LastRead j u r.0 r.1
 unfolding last_of
-last_read j u r n v e q = go (eqb u 0) refl e
+last_read j u r e = go (eqb u 0) refl e
   where
     go : (b : Bool) → eqb u 0 ≡ b
-        → r ≡ cond b last.NoCall (last.Standing (min (get_or j (u - 1) 0 / 2) ((u - 1) / 2)) (eqb (get_or j (u - 1) 0 % 2) 1)) → LastRead j u n v
-    go true x y = absurd (let z : ◌≡◌ {A = ℕ} 0 1 = cc in omega arith)
+        → Some r ≡ cond b None (Some (min (get_or j (u - 1) 0 / 2) ((u - 1) / 2), eqb (get_or j (u - 1) 0 % 2) 1)) → LastRead j u r.0 r.1
+    go true x y = cc
     go false x y =
-        let a : n ≡ min (get_or j (u - 1) 0 / 2) ((u - 1) / 2) = cc in
-        let b : v ≡ eqb (get_or j (u - 1) 0 % 2) 1 = cc in
+        let p : r ≡ (min (get_or j (u - 1) 0 / 2) ((u - 1) / 2), eqb (get_or j (u - 1) 0 % 2) 1) = cc in
+        let a : r.0 ≡ min (get_or j (u - 1) 0 / 2) ((u - 1) / 2) = ap (λ (q : ℕ × Bool). q.0) p in
         let z = eqb-false u 0 x in
-        record { some = omega arith; runs_are = a; value_is = b; fits = omega arith }
+        record { some = omega arith; runs_are = a; value_is = ap (λ (q : ℕ × Bool). q.1) p; fits = omega arith }
 
-pub last_absent : (j : List ℕ) (u : ℕ) (r : Last) → r ≡ last_of j u → r ≡ last.NoCall → u ≡ 0
+pub last_absent : (j : List ℕ) (u : ℕ) → None ≡ last_of j u → u ≡ 0
 unfolding last_of
-last_absent j u r e q = go (eqb u 0) refl e
+last_absent j u e = go (eqb u 0) refl e
   where
     go : (b : Bool) → eqb u 0 ≡ b
-        → r ≡ cond b last.NoCall (last.Standing (min (get_or j (u - 1) 0 / 2) ((u - 1) / 2)) (eqb (get_or j (u - 1) 0 % 2) 1)) → u ≡ 0
+        → ◌≡◌ {A = Option (ℕ × Bool)} None (cond b None (Some (min (get_or j (u - 1) 0 / 2) ((u - 1) / 2), eqb (get_or j (u - 1) 0 % 2) 1))) → u ≡ 0
     go true x y = eqb-true u 0 x
-    go false x y = absurd (let z : ◌≡◌ {A = ℕ} 0 1 = cc in omega arith)
+    go false x y = cc
 
 -- ---- the journal of a sound ledger, unpacked: the last standing call's runs and value, and the journal before it
 
@@ -168,10 +169,11 @@ module _ (j l : List ℕ) (rs : List Run) (w : Bool) (u n : ℕ) (v : Bool) (roo
 -- ---- `take_back`
 
 module _ (h : Ledger) (st j : List ℕ) where
-  pub back_refused : (k : ℕ) → k ≡ lent_refusal h (length st) (length j) → (k ≡ 0 → ⊥) → CallEnsures back (memory h st j) (refusal k) (memory h st j)
+  pub back_refused : (k : Refusal) → number_of k ≡ lent_refusal h (length st) (length j) → CallEnsures back (memory h st j) (refusal (number_of k)) (memory h st j)
   unfolding call_refusal
-  back_refused k e z =
-      refused_call back (memory h st j) k (rw (sym e, ne_eqb k 0 z)) z (λ m q. absurd (z (e ∙ q.lent)))
+  back_refused k e =
+      let z = number_some k in
+      refused_call back (memory h st j) (number_of k) (rw (sym e, ne_eqb (number_of k) 0 z)) z (λ m q. absurd (z (e ∙ q.lent)))
 
   pub back_none : lent_refusal h (length st) (length j) ≡ 0 → h.used ≡ 0 → CallEnsures back (memory h st j) (refusal 5) (memory h st j)
   unfolding call_refusal

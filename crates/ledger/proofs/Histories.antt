@@ -9,20 +9,20 @@ use Rattle.range_bitset.specs.Entries.{Answers}
 use Rattle.range_bitset.proofs.AcceptedHeads.{range_accepts, point_accepts, fresh_represents}
 use Rattle.ledger.specs.Machine.{Machine, fresh, Call, Outcome, step, after, set_of, population, used}
 use Rattle.ledger.specs.Memory.{Memory, memory, lent_enough, Holds}
-use Rattle.ledger.specs.Entries.{new_head, new_of, of_opened}
+use Rattle.ledger.specs.Entries.{new_head, new_of, of_new}
 use Rattle.ledger.specs.History.{Begun, by_new, by_open, Chain, none as no_call, call, Agrees, History}
 use Rattle.ledger.specs.declared.Ledger.{Ledger}
-use Rattle.ledger.specs.declared.Opened.{Opened}
-use Rattle.ledger.specs.declared.Opened.TheVariants as opened
+use Rattle.std.proofs.Common.{Result, Ok, Err}
+use Rattle.answers.specs.declared.Refusal.{Refusal}
+use Rattle.answers.specs.declared.Refusal.TheVariants.{Size, Short}
 use Rattle.ledger.proofs.Machines.{reachable_fresh, population_sum}
 use Rattle.ledger.proofs.Refusals.{lent_accepted, set_accepts, fresh_refusal}
 
 -- ---- what new gives
 
-abbrev pub head_or : Ledger → Opened → Ledger
-head_or h (opened.Head x) = x
-head_or h (opened.Refused k) = h
-head_or h (opened.BadRun i) = h
+abbrev pub head_or : Ledger → Result Ledger Refusal → Ledger
+head_or h (Ok x) = x
+head_or h (Err k) = h
 
 module _ (capacity j : ℕ) (st journal : List ℕ) where
   pub holds_fresh : (allowed_capacity capacity && leb j 16384) ≡ true → lent_enough (capacity / 64) j (length st) (length journal) ≡ true
@@ -42,17 +42,17 @@ module _ (capacity j : ℕ) (st journal : List ℕ) where
         journal = refl;
       }
 
-  holds_new : (h : Ledger) → new_of capacity j (length st) (length journal) ≡ opened.Head h → Holds (memory h st journal) (fresh capacity j)
+  holds_new : (h : Ledger) → new_of capacity j (length st) (length journal) ≡ Ok h → Holds (memory h st journal) (fresh capacity j)
   unfolding new_of
   holds_new h e =
       by (allowed_capacity capacity && leb j 16384) refl (lent_enough (capacity / 64) j (length st) (length journal)) refl e
     where
       by : (p : Bool) → (allowed_capacity capacity && leb j 16384) ≡ p
           → (q : Bool) → lent_enough (capacity / 64) j (length st) (length journal) ≡ q
-          → cond p (cond q (opened.Head (new_head (capacity / 64) j false)) (opened.Refused 3)) (opened.Refused 1) ≡ opened.Head h
+          → cond p (cond q (Ok (new_head (capacity / 64) j false)) (Err Short)) (Err Size) ≡ Ok h
           → Holds (memory h st journal) (fresh capacity j)
-      by false x q y z = absurd (omega (arith, ap (λ (o : Opened). refused (of_opened o)) z))
-      by true x false y z = absurd (omega (arith, ap (λ (o : Opened). refused (of_opened o)) z))
+      by false x q y z = absurd (omega (arith, ap (λ (o : Result Ledger Refusal). refused (of_new o)) z))
+      by true x false y z = absurd (omega (arith, ap (λ (o : Result Ledger Refusal). refused (of_new o)) z))
       by true x true y z = subst (λ (k : Ledger). Holds (memory k st journal) (fresh capacity j)) (ap (head_or h) z) (holds_fresh x y)
 
 pub begun : (x : Memory) (m : Machine) → Begun x m → Holds x m

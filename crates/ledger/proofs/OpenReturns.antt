@@ -1,78 +1,146 @@
 -- The returns of `new` and `open`: what each gives, from what the code has there. Assumes nothing.
-use Rattle.ledger.proofs.Kit.{◌≡◌, refl, sym, ap, ◌∙◌, subst, Bool, true, false, not, cond, List, [], ◌∷◌, ℕ, ◌*◌, ◌/◌, ◌≤◌, ◌<◌, arith, le-leb, lt-leb, lt-ltb, le-ltb, eq-eqb, ne_eqb, eqb, length}
+use Rattle.ledger.proofs.Kit.{◌≡◌, refl, sym, ap, ◌∙◌, subst, Bool, true, false, not, ◌&&◌, cond, List, [], ◌∷◌, ℕ, ◌*◌, ◌/◌, ◌≤◌, ◌<◌, arith, le-leb, lt-leb, lt-ltb, le-ltb, eq-eqb, ne_eqb, eqb, leb, leb-true, length}
 use Rattle.positions.proofs.Replies.{numbers_refusal}
 use Rattle.positions.specs.Positions.{Positions, none}
 use Rattle.positions.specs.Runs.{Ascending}
 use Rattle.positions.proofs.Runs.{covered_above}
 use Rattle.range_bitset.specs.Represents.{Represents}
 use Rattle.range_bitset.specs.Answers.{allowed_capacity, storage_refusal}
+use Rattle.std.proofs.Common.{Result, Ok, Err}
+use Rattle.positions.proofs.Bools.{and_left, and_right}
+use Rattle.answers.specs.Refusals.{number_of}
+use Rattle.answers.specs.declared.Refusal.{Refusal}
+use Rattle.answers.specs.declared.Refusal.TheVariants.{Size, Head, Short, Outside, NoCall, JournalFull, BadFile, NoRoom}
+use Rattle.answers.proofs.Numbers.{number_some}
 use Rattle.range_bitset.specs.Entries.{new_of as set_new}
 use Rattle.range_bitset.specs.declared.RangeBitset.{RangeBitset}
-use Rattle.range_bitset.specs.declared.Made.{Made}
-use Rattle.range_bitset.specs.declared.Made.TheVariants as made
 use Rattle.range_bitset.proofs.AcceptedHeads.{fresh_head, fresh_represents}
-use Rattle.ledger.specs.Entries.{new_head, new_of, of_opened, open_reply, OpenEnsures}
+use Rattle.ledger.specs.Entries.{Opened, new_head, new_of, of_opened, open_reply, OpenEnsures}
 use Rattle.ledger.specs.Machine.{opened_with, set_of, used}
 use Rattle.ledger.specs.Memory.{lent_enough, lent_refusal, memory, Holds}
-use Rattle.ledger.specs.Inner.{Within, Reassigns, file_runs, OpensRuns}
-use Rattle.ledger.specs.declared.Opened.{Opened}
+use Rattle.ledger.specs.Inner.{fresh_of, Within, Reassigns, file_runs}
 use Rattle.ledger.proofs.Machines.{reachable_opened}
-use Rattle.ledger.proofs.Refusals.{LentEnough, lent_accepted, set_accepts, lent_again, fresh_refusal, fresh_enough}
+use Rattle.ledger.proofs.Refusals.{LentEnough, lent_accepted, set_accepts, lent_again, fresh_refusal}
 use Rattle.ledger.proofs.ReassignedRuns.{ascending_within, ascending_any}
-use Rattle.saved_list.specs.Format.{saved_words, saved_count, saved_capacity, saved_runs, saved_positions, Headed, Whole, headed, whole, first_bad_run}
-use Rattle.positions.specs.Replies.{refused_with, number, refusal}
+use Rattle.saved_list.specs.Format.{saved_words, saved_count, saved_capacity, saved_runs, saved_positions, Headed, Whole, headed, whole, held_count, first_bad_run}
+use Rattle.positions.specs.Replies.{numbers, refused_with, number, nothing, refusal}
 use Rattle.saved_list.specs.Answers.{of_header, header_reply, of_length_check, length_reply, of_run_check, runs_reply}
 use Rattle.saved_list.specs.declared.Header.{Header}
-use Rattle.saved_list.specs.declared.Header.TheVariants.{Fields, BadHeader}
-use Rattle.saved_list.specs.declared.LengthCheck.{LengthCheck}
-use Rattle.saved_list.specs.declared.LengthCheck.TheVariants.{GoodLength, BadLength}
-use Rattle.saved_list.specs.declared.RunCheck.{RunCheck}
-use Rattle.saved_list.specs.declared.RunCheck.TheVariants.{AllGood, BadRun}
+use Rattle.saved_list.specs.declared.BadRun.{BadRun}
 use Rattle.saved_list.proofs.Bytes.{headed_yes, yes_headed, whole_yes, yes_whole, whole_held}
 use Rattle.saved_list.proofs.Lists.{runs_length, all_assigned}
 use Rattle.saved_list.proofs.GoodFiles.{HeaderRead, fields_read, header_refused, length_whole, length_refused, FirstBad, runs_ascending, runs_refused, ascending_count}
 use Rattle.ledger.specs.declared.Ledger.{Ledger}
-use Rattle.ledger.specs.declared.Opened.TheVariants as opened
+use Rattle.ledger.specs.declared.NotOpened.TheVariants as why
 
 -- ---- the set's head
 
-module _ (capacity : ℕ) (r : Made) (e : r ≡ set_new capacity) where
-  pub set_declined : (k : ℕ) → r ≡ made.Refused k → allowed_capacity capacity ≡ false
-  unfolding set_new
-  set_declined k q = go (allowed_capacity capacity) refl e
-    where
-      go : (b : Bool) → allowed_capacity capacity ≡ b → r ≡ cond b (made.Head (fresh_head (capacity / 64))) (made.Refused 1)
-          → allowed_capacity capacity ≡ false
-      go false x y = x
-      go true x y = absurd (let z : ◌≡◌ {A = ℕ} 0 1 = cc in omega arith)
+pub set_declined : (capacity : ℕ) (k : Refusal) → Err k ≡ set_new capacity → (k ≡ Size) × (allowed_capacity capacity ≡ false)
+unfolding set_new
+set_declined capacity k e = go (allowed_capacity capacity) refl e
+  where
+    go : (b : Bool) → allowed_capacity capacity ≡ b → Err k ≡ cond b (Ok (fresh_head (capacity / 64))) (Err Size)
+        → (k ≡ Size) × (allowed_capacity capacity ≡ false)
+    go true x y = cc
+    go false x y = ((cc), x)
 
-  pub set_made : (h : RangeBitset) → r ≡ made.Head h → (allowed_capacity capacity ≡ true) × (h ≡ fresh_head (capacity / 64))
-  unfolding set_new
-  set_made h q = go (allowed_capacity capacity) refl e
+pub set_made : (capacity : ℕ) (h : RangeBitset) → Ok h ≡ set_new capacity → (allowed_capacity capacity ≡ true) × (h ≡ fresh_head (capacity / 64))
+unfolding set_new
+set_made capacity h e = go (allowed_capacity capacity) refl e
+  where
+    go : (b : Bool) → allowed_capacity capacity ≡ b → Ok h ≡ cond b (Ok (fresh_head (capacity / 64))) (Err Size)
+        → (allowed_capacity capacity ≡ true) × (h ≡ fresh_head (capacity / 64))
+    go true x y = (x, (cc))
+    go false x y = cc
+
+-- ---- the head of a ledger with nothing in it
+
+fresh_case : (capacity j : ℕ) (b : Bool) → (allowed_capacity capacity && leb j 16384) ≡ b → fresh_of capacity j ≡ cond b (Ok (new_head (capacity / 64) j false)) (Err Size)
+unfolding fresh_of
+fresh_case capacity j b e = rw e
+
+pub fresh_declined : (capacity j : ℕ) (k : Refusal) → Err k ≡ fresh_of capacity j → (k ≡ Size) × ((allowed_capacity capacity && leb j 16384) ≡ false)
+fresh_declined capacity j k e = go (allowed_capacity capacity && leb j 16384) refl
+  where
+    go : (b : Bool) → (allowed_capacity capacity && leb j 16384) ≡ b → (k ≡ Size) × ((allowed_capacity capacity && leb j 16384) ≡ false)
+    go true x = let q = fresh_case capacity j true x in cc
+    go false x = let q = fresh_case capacity j false x in ((cc), x)
+
+pub fresh_made : (capacity j : ℕ) (h : Ledger) → Ok h ≡ fresh_of capacity j
+    → (allowed_capacity capacity ≡ true) × (j ≤ 16384) × (h ≡ new_head (capacity / 64) j false)
+fresh_made capacity j h e = go (allowed_capacity capacity && leb j 16384) refl
+  where
+    go : (b : Bool) → (allowed_capacity capacity && leb j 16384) ≡ b → (allowed_capacity capacity ≡ true) × (j ≤ 16384) × (h ≡ new_head (capacity / 64) j false)
+    go true x =
+        let q = fresh_case capacity j true x in
+        (and_left (allowed_capacity capacity) (leb j 16384) x, leb-true j 16384 (and_right (allowed_capacity capacity) (leb j 16384) x), (cc))
+    go false x = let q = fresh_case capacity j false x in cc
+
+-- its returns
+pub fresh_capacity : (capacity j : ℕ) → allowed_capacity capacity ≡ false → Err Size ≡ fresh_of capacity j
+unfolding fresh_of
+fresh_capacity capacity j e = rw e
+
+pub fresh_journal : (capacity j : ℕ) → allowed_capacity capacity ≡ true → 16384 < j → Err Size ≡ fresh_of capacity j
+unfolding fresh_of
+fresh_journal capacity j e l = rw (e, lt-leb j 16384 l)
+
+pub fresh_done : (capacity j : ℕ) → allowed_capacity capacity ≡ true → j ≤ 16384 → Ok (new_head (capacity / 64) j false) ≡ fresh_of capacity j
+unfolding fresh_of
+fresh_done capacity j e l = rw (e, le-leb j 16384 l)
+
+-- what is lent to it is enough exactly where it is not refused
+module _ (capacity j n k : ℕ) (h : Ledger) (e : Ok h ≡ fresh_of capacity j) where
+  lent_is : lent_refusal h n k ≡ cond (lent_enough (capacity / 64) j n k) 0 3
+  lent_is =
+      let m = fresh_made capacity j h e in
+      ap (λ (x : Ledger). lent_refusal x n k) m.2 ∙ fresh_refusal capacity j n k m.0 m.1
+
+  pub lent_less : (r : Refusal) → number_of r ≡ lent_refusal h n k → (lent_enough (capacity / 64) j n k ≡ false) × (number_of r ≡ 3)
+  lent_less r q = go (lent_enough (capacity / 64) j n k) refl (q ∙ lent_is)
     where
-      go : (b : Bool) → allowed_capacity capacity ≡ b → r ≡ cond b (made.Head (fresh_head (capacity / 64))) (made.Refused 1)
-          → (allowed_capacity capacity ≡ true) × (h ≡ fresh_head (capacity / 64))
-      go false x y = absurd (let z : ◌≡◌ {A = ℕ} 0 1 = cc in omega arith)
-      go true x y = (x, cc)
+      go : (b : Bool) → lent_enough (capacity / 64) j n k ≡ b → number_of r ≡ cond b 0 3 → (lent_enough (capacity / 64) j n k ≡ false) × (number_of r ≡ 3)
+      go true x y = absurd (number_some r y)
+      go false x y = (x, y)
+
+  pub lent_more : lent_refusal h n k ≡ 0 → lent_enough (capacity / 64) j n k ≡ true
+  lent_more q = go (lent_enough (capacity / 64) j n k) refl (sym lent_is ∙ q)
+    where
+      go : (b : Bool) → lent_enough (capacity / 64) j n k ≡ b → ◌≡◌ {A = ℕ} (cond b 0 3) 0 → lent_enough (capacity / 64) j n k ≡ true
+      go true x y = x
+      go false x y = absurd (omega arith)
+
+-- 3 is the number of one refusal alone
+pub three : (k : Refusal) → number_of k ≡ 3 → k ≡ Short
+three Short e = refl
+three Size e = absurd (omega arith)
+three Head e = absurd (omega arith)
+three Outside e = absurd (omega arith)
+three NoCall e = absurd (omega arith)
+three JournalFull e = absurd (omega arith)
+three BadFile e = absurd (omega arith)
+three NoRoom e = absurd (omega arith)
 
 -- ---- `new`
 
 module _ (capacity j n k : ℕ) where
-  pub new_capacity : allowed_capacity capacity ≡ false → opened.Refused 1 ≡ new_of capacity j n k
+  pub new_size : (r : Refusal) → Err r ≡ fresh_of capacity j → Err r ≡ new_of capacity j n k
   unfolding new_of
-  new_capacity e = rw e
+  new_size r e = let d = fresh_declined capacity j r e in rw (d.0, d.1)
 
-  pub new_journal : allowed_capacity capacity ≡ true → 16384 < j → opened.Refused 1 ≡ new_of capacity j n k
-  unfolding new_of
-  new_journal e l = rw (e, lt-leb j 16384 l)
+  module _ (h : Ledger) (e : Ok h ≡ fresh_of capacity j) where
+    pub new_lent : (r : Refusal) → number_of r ≡ lent_refusal h n k → Err r ≡ new_of capacity j n k
+    unfolding new_of
+    new_lent r q =
+        let m = fresh_made capacity j h e in
+        let d = lent_less capacity j n k h e r q in
+        rw (three r d.1, m.0, le-leb j 16384 m.1, d.0)
 
-  pub new_lent : (h : RangeBitset) (r : ℕ) (b : Bool) → (allowed_capacity capacity ≡ true) × (h ≡ fresh_head (capacity / 64)) → j ≤ 16384
-      → r ≡ lent_refusal (record { set = h; journal = j; used = 0 }) n k → eqb r 0 ≡ b
-      → cond b (opened.Head (record { set = h; journal = j; used = 0 })) (opened.Refused 3) ≡ new_of capacity j n k
-  unfolding new_of
-  new_lent h r b e l q z =
-      let enough = fresh_enough capacity j n k r e.0 l (rw e.1 at q) in
-      rw (e.1, e.0, le-leb j 16384 l, enough, z)
+    pub new_done : lent_refusal h n k ≡ 0 → Ok h ≡ new_of capacity j n k
+    unfolding new_of
+    new_done q =
+        let m = fresh_made capacity j h e in
+        rw (m.2, m.0, le-leb j 16384 m.1, lent_more capacity j n k h e q)
 
 -- ---- `open`: the refusals
 
@@ -90,19 +158,22 @@ open_declined file j st lent r k vs p e =
 
 -- the tests that a file passes in turn
 module _ (file : List ℕ) where
-  pub header_bad : refusal 7 ≡ header_reply file → headed file ≡ false
-  header_bad e = go (headed file) refl
+  pub bad_header : (k : Refusal) → refusal (number_of k) ≡ header_reply file → (headed file ≡ false) × (number_of k ≡ 7)
+  unfolding header_reply
+  bad_header k e = go (headed file) refl e
     where
-      go : (b : Bool) → headed file ≡ b → b ≡ false
-      go true x = absurd (header_refused file e (headed_yes file x))
-      go false x = refl
+      go : (b : Bool) → headed file ≡ b → refusal (number_of k) ≡ cond b (numbers (saved_words file ∷ saved_count file ∷ [])) (refusal 7)
+          → (headed file ≡ false) × (number_of k ≡ 7)
+      go true x y = cc
+      go false x y = (x, (cc))
 
-  pub length_bad : refusal 7 ≡ length_reply file → whole file ≡ false
-  length_bad e = go (whole file) refl
+  pub bad_length : (k : Refusal) → refusal (number_of k) ≡ length_reply file → (whole file ≡ false) × (number_of k ≡ 7)
+  unfolding length_reply
+  bad_length k e = go (whole file) refl e
     where
-      go : (b : Bool) → whole file ≡ b → b ≡ false
-      go true x = absurd (length_refused file e (whole_yes file x))
-      go false x = refl
+      go : (b : Bool) → whole file ≡ b → refusal (number_of k) ≡ cond b nothing (refusal 7) → (whole file ≡ false) × (number_of k ≡ 7)
+      go true x y = cc
+      go false x y = (x, (cc))
 
 module _ (file : List ℕ) (j n k : ℕ) where
   pub refuse_header : headed file ≡ false → refusal 7 ≡ open_reply file j n k
@@ -110,15 +181,11 @@ module _ (file : List ℕ) (j n k : ℕ) where
   refuse_header e = rw e
 
   module _ (h : Headed file) where
-    pub refuse_capacity : allowed_capacity (saved_capacity file) ≡ false → refusal 1 ≡ open_reply file j n k
+    pub refuse_size : (allowed_capacity (saved_capacity file) && leb j 16384) ≡ false → refusal 1 ≡ open_reply file j n k
     unfolding open_reply
-    refuse_capacity e = rw (yes_headed file h, e)
+    refuse_size e = rw (yes_headed file h, e)
 
     module _ (a : allowed_capacity (saved_capacity file) ≡ true) where
-      pub refuse_journal : 16384 < j → refusal 1 ≡ open_reply file j n k
-      unfolding open_reply
-      refuse_journal l = rw (yes_headed file h, a, lt-leb j 16384 l)
-
       module _ (l : j ≤ 16384) where
         pub refuse_length : whole file ≡ false → refusal 7 ≡ open_reply file j n k
         unfolding open_reply
@@ -149,7 +216,7 @@ file_head capacity W h e q = let p : capacity / 64 ≡ W = omega arith in q ∙ 
 module _ (file : List ℕ) (j : ℕ) (st lent : List ℕ) (h : Headed file) (a : allowed_capacity (saved_capacity file) ≡ true) (l : j ≤ 16384) (w : Whole file)
     (e : lent_enough (saved_words file) j (length st) (length lent) ≡ true) (c : Ascending 0 (saved_capacity file) (saved_runs file))
     (h' : RangeBitset) (st' : List ℕ) (long : length st' ≡ length st)
-    (o : OpensRuns (fresh_head (saved_words file)) st file (saved_count file) h' st') where
+    (o : Reassigns (fresh_head (saved_words file)) st (file_runs file (held_count file)) true h' st') where
   abbrev fresh : Ledger
   fresh = new_head (saved_words file) j false
 
@@ -167,7 +234,7 @@ module _ (file : List ℕ) (j : ℕ) (st lent : List ℕ) (h : Headed file) (a :
   in_file = ascending_within 0 (saved_capacity file) (saved_capacity file) (saved_runs file) (omega arith) c
 
   runs_set : Reassigns (fresh_head (saved_words file)) st (file_runs file (saved_count file)) true h' st'
-  runs_set = o.reassigns (omega (arith, whole_held file w))
+  runs_set = rw (whole_held file w) at o
 
   holds_file : Represents h' st' (saved_positions file)
   unfolding saved_runs
@@ -199,7 +266,7 @@ module _ (file : List ℕ) (j : ℕ) (st lent : List ℕ) (h : Headed file) (a :
         journal = refl;
       }
 
-  pub opened_file : OpenEnsures file j st lent (opened.Head opened_head) st'
+  pub opened_file : OpenEnsures file j st lent (Ok opened_head) st'
   opened_file =
       record {
         refuses = refuse_none file j (length st) (length lent) h a l w e c;
@@ -209,72 +276,69 @@ module _ (file : List ℕ) (j : ℕ) (st lent : List ℕ) (h : Headed file) (a :
         flag = λ x q. subst (λ (y : Ledger). y.set.allocated ≡ not (eqb (saved_count file) 0)) (same x q) begun_file;
       }
     where
-      same : (x : Ledger) → opened.Head opened_head ≡ opened.Head x → opened_head ≡ x
+      same : (x : Ledger) → ◌≡◌ {A = Opened} (Ok opened_head) (Ok x) → opened_head ≡ x
       same x q = cc
 
 -- ---- the returns of `open`, from the answers that it has got by then
 
-module _ (file : List ℕ) (j : ℕ) (st lent : List ℕ) (header : Header) (header_is : of_header header ≡ header_reply file) where
-  pub open_header : header ≡ BadHeader → OpenEnsures file j st lent (opened.Refused 7) st
-  open_header q =
-      open_declined file j st lent (opened.Refused 7) 7 [] refl
-      (refuse_header file j (length st) (length lent) (header_bad file (sym (ap of_header q) ∙ header_is)))
+module _ (file : List ℕ) (j : ℕ) (st lent : List ℕ) where
+  pub open_header : (k : Refusal) → of_header (Err k) ≡ header_reply file → OpenEnsures file j st lent (Err (why.Refused k)) st
+  open_header k e =
+      let p = bad_header file k e in
+      open_declined file j st lent (Err (why.Refused k)) (number_of k) [] refl (ap refusal p.1 ∙ refuse_header file j (length st) (length lent) p.0)
 
-  module _ (W count : ℕ) (fields : header ≡ Fields W count) (made_set : Made) (made_is : made_set ≡ set_new (64 * W)) where
-    pub read : HeaderRead file W count
-    read = fields_read file W count (sym (ap of_header fields) ∙ header_is)
+  module _ (header : Header) (header_is : of_header (Ok header) ≡ header_reply file) where
+    pub read : HeaderRead file header.words header.runs
+    read = fields_read file header.words header.runs header_is
 
-    pub open_capacity : (k : ℕ) → made_set ≡ made.Refused k → OpenEnsures file j st lent (opened.Refused 1) st
-    open_capacity k q =
-        open_declined file j st lent (opened.Refused 1) 1 [] refl
-        (refuse_capacity file j (length st) (length lent) read.headed (rw read.words_read at (set_declined (64 * W) made_set made_is k q)))
+    pub open_size : (k : Refusal) → Err k ≡ fresh_of (64 * header.words) j → OpenEnsures file j st lent (Err (why.Refused k)) st
+    open_size k e =
+        let d = fresh_declined (64 * header.words) j k e in
+        open_declined file j st lent (Err (why.Refused k)) (number_of k) [] refl
+        (ap (λ (x : Refusal). refusal (number_of x)) d.0 ∙ refuse_size file j (length st) (length lent) read.headed (rw read.words_read at d.1))
 
-    module _ (set : RangeBitset) (set_is : made_set ≡ made.Head set) where
-      allowed_file : allowed_capacity (saved_capacity file) ≡ true
-      allowed_file = rw read.words_read at (set_made (64 * W) made_set made_is set set_is).0
+    module _ (h : Ledger) (h_is : Ok h ≡ fresh_of (64 * header.words) j) where
+      allowed_file : (allowed_capacity (saved_capacity file) ≡ true) × (j ≤ 16384) × (h ≡ new_head (saved_words file) j false)
+      allowed_file =
+          let m = fresh_made (64 * header.words) j h h_is in
+          let w : 64 * header.words / 64 ≡ saved_words file = omega (arith, read.words_read) in
+          (rw read.words_read at m.0, m.1, m.2 ∙ ap (λ (x : ℕ). new_head x j false) w)
 
-      fresh_set : set ≡ fresh_head (saved_words file)
-      fresh_set = file_head (64 * W) (saved_words file) set (rw read.words_read) (set_made (64 * W) made_set made_is set set_is).1
+      pub open_length : (k : Refusal) → of_length_check (Err k) ≡ length_reply file → OpenEnsures file j st lent (Err (why.Refused k)) st
+      open_length k e =
+          let p = bad_length file k e in
+          open_declined file j st lent (Err (why.Refused k)) (number_of k) [] refl
+          (ap refusal p.1 ∙ refuse_length file j (length st) (length lent) read.headed allowed_file.0 allowed_file.1 p.0)
 
-      pub open_journal : 16384 < j → OpenEnsures file j st lent (opened.Refused 1) st
-      open_journal l =
-          open_declined file j st lent (opened.Refused 1) 1 [] refl
-          (refuse_journal file j (length st) (length lent) read.headed allowed_file l)
+      module _ (u : Unit {0}) (long_is : of_length_check (Ok u) ≡ length_reply file) where
+        whole_file : Whole file
+        whole_file = length_whole file long_is
 
-      module _ (l : j ≤ 16384) (long : LengthCheck) (long_is : of_length_check long ≡ length_reply file) where
-        pub open_length : long ≡ BadLength → OpenEnsures file j st lent (opened.Refused 7) st
-        open_length q =
-            open_declined file j st lent (opened.Refused 7) 7 [] refl
-            (refuse_length file j (length st) (length lent) read.headed allowed_file l (length_bad file (sym (ap of_length_check q) ∙ long_is)))
+        words_are : 64 * header.words / 64 ≡ saved_words file
+        words_are = omega (arith, read.words_read)
 
-        module _ (good : long ≡ GoodLength) (refused : ℕ)
-            (refused_is : refused ≡ lent_refusal (record { set = set; journal = j; used = 0 }) (length st) (length lent)) where
-          whole_file : Whole file
-          whole_file = length_whole file (sym (ap of_length_check good) ∙ long_is)
+        pub open_lent : (k : Refusal) → number_of k ≡ lent_refusal h (length st) (length lent) → OpenEnsures file j st lent (Err (why.Refused k)) st
+        open_lent k e =
+            let d = lent_less (64 * header.words) j (length st) (length lent) h h_is k e in
+            open_declined file j st lent (Err (why.Refused k)) (number_of k) [] refl
+            (ap refusal d.1 ∙ refuse_lent file j (length st) (length lent) read.headed allowed_file.0 allowed_file.1 whole_file (rw words_are at d.0))
 
-          enough_file : (b : Bool) → eqb refused 0 ≡ b → lent_enough (saved_words file) j (length st) (length lent) ≡ b
-          enough_file b q =
-              let w : saved_capacity file / 64 ≡ saved_words file = omega arith in
-              (rw w at (fresh_enough (saved_capacity file) j (length st) (length lent) refused allowed_file l (rw (w, ← fresh_set) refused_is))) ∙ q
+        module _ (passed : lent_refusal h (length st) (length lent) ≡ 0) where
+          enough : lent_enough (saved_words file) j (length st) (length lent) ≡ true
+          enough = rw words_are at (lent_more (64 * header.words) j (length st) (length lent) h h_is passed)
 
-          pub open_lent : (refused ≡ 0 → ⊥) → OpenEnsures file j st lent (opened.Refused 3) st
-          open_lent q =
-              open_declined file j st lent (opened.Refused 3) 3 [] refl
-              (refuse_lent file j (length st) (length lent) read.headed allowed_file l whole_file (enough_file false (ne_eqb refused 0 q)))
+          pub open_run : (bad : BadRun) → of_run_check (Err bad) ≡ runs_reply file → OpenEnsures file j st lent (Err (why.BadRun bad.index)) st
+          open_run bad e =
+              open_declined file j st lent (Err (why.BadRun bad.index)) 8 (bad.index ∷ []) refl
+              (refuse_run file j (length st) (length lent) read.headed allowed_file.0 allowed_file.1 whole_file enough bad.index
+              (runs_refused file whole_file bad.index e))
 
-          module _ (none_refused : refused ≡ 0) (checked : RunCheck) (checked_is : of_run_check checked ≡ runs_reply file) where
-            enough : lent_enough (saved_words file) j (length st) (length lent) ≡ true
-            enough = enough_file true (eq-eqb refused 0 none_refused)
-
-            pub open_run : (i : ℕ) → checked ≡ BadRun i → OpenEnsures file j st lent (opened.BadRun i) st
-            open_run i q =
-                open_declined file j st lent (opened.BadRun i) 8 (i ∷ []) refl
-                (refuse_run file j (length st) (length lent) read.headed allowed_file l whole_file enough i
-                (runs_refused file whole_file i (sym (ap of_run_check q) ∙ checked_is)))
-
-            pub open_done : checked ≡ AllGood → (h' : RangeBitset) (st' : List ℕ) → length st' ≡ length st → OpensRuns set st file count h' st'
-                → OpenEnsures file j st lent (opened.Head (record { set = h'; journal = j; used = 0 })) st'
-            open_done q h' st' same o =
-                opened_file file j st lent read.headed allowed_file l whole_file enough
-                (runs_ascending file whole_file (sym (ap of_run_check q) ∙ checked_is)) h' st' same
-                (rw (fresh_set, read.count_read) at o)
+          pub open_done : (v : Unit {0}) → of_run_check (Ok v) ≡ runs_reply file → (h' : RangeBitset) (st' : List ℕ) → length st' ≡ length st
+              → Reassigns h.set st (file_runs file (held_count file)) true h' st'
+              → OpenEnsures file j st lent (Ok (record { set = h'; journal = h.journal; used = h.used })) st'
+          open_done v e h' st' same o =
+              let set_is : h.set ≡ fresh_head (saved_words file) = ap (λ (x : Ledger). x.set) allowed_file.2 in
+              let journal_is : h.journal ≡ j = ap (λ (x : Ledger). x.journal) allowed_file.2 in
+              let used_is : h.used ≡ 0 = ap (λ (x : Ledger). x.used) allowed_file.2 in
+              rw (journal_is, used_is)
+              (opened_file file j st lent read.headed allowed_file.0 allowed_file.1 whole_file enough (runs_ascending file whole_file e) h' st' same (rw set_is at o))

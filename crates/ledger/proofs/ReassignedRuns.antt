@@ -7,16 +7,19 @@ use Rattle.positions.proofs.Bools.{same₄}
 use Rattle.positions.proofs.Runs.{runs_ascending, runs_empty}
 use Rattle.positions.proofs.Changes.{assigned_runs_then, back_changes, changed_lengths}
 use Rattle.range_bitset.specs.Represents.{Represents, capacity_of}
-use Rattle.positions.specs.Replies.{number}
-use Rattle.range_bitset.specs.Answers.{of_counted, storage_refusal, range_refusal}
+use Rattle.std.proofs.Common.{Ok, Err}
+use Rattle.positions.specs.Replies.{number, numbers}
+use Rattle.answers.specs.Refusals.{answer_in, head_after}
+use Rattle.range_bitset.specs.Answers.{Counted, Assigned, of_assigned, storage_refusal, range_refusal}
 use Rattle.range_bitset.specs.Entries.{AssignEnsures}
 use Rattle.range_bitset.specs.declared.RangeBitset.{RangeBitset}
-use Rattle.range_bitset.specs.declared.Assigned.{Assigned}
-use Rattle.range_bitset.specs.declared.Counted.{Counted}
-use Rattle.range_bitset.specs.declared.Counted.TheVariants as counted
 use Rattle.saved_list.specs.Format.{run_at, runs_after, held_count}
+use Rattle.saved_list.specs.Answers.{run_reply, index_after}
+use Rattle.saved_list.specs.declared.Runs.{Runs}
+use Rattle.saved_list.proofs.GoodFiles.{found_is, found_none}
+use Rattle.saved_list.proofs.Turns.{moved_on}
 use Rattle.saved_list.proofs.Lists.{runs_more}
-use Rattle.ledger.specs.Inner.{read_runs, changed_by_runs, Within, any_run, Reassigns, AssignsRuns, file_runs, OpensRuns, count_in}
+use Rattle.ledger.specs.Inner.{read_runs, changed_by_runs, Within, any_run, Reassigns, AssignsRuns, file_runs}
 use Rattle.range_bitset.proofs.AcceptedHeads.{storage_again, range_accepts}
 
 -- ---- a list with one run more
@@ -52,9 +55,10 @@ reassigns_none h st v =
 pub assigns_none : (h : RangeBitset) (st : List ℕ) (v : Bool) → AssignsRuns h st [] v 0 h st
 assigns_none h st v = record { reassigns = reassigns_none h st v; changed = λ z s t w. refl }
 
-count_in_lem : (r : Counted) (k : ℕ) → of_counted r ≡ number k → count_in r ≡ k
-count_in_lem (counted.Count n) k e = cc
-count_in_lem (counted.Refused n) k e = absurd (let z : ◌≡◌ {A = ℕ} 0 1 = cc in omega arith)
+-- the count of an assignment, 0 where it is refused
+abbrev pub count_in : Counted → ℕ
+count_in (Ok n) = n
+count_in (Err k) = 0
 
 module _ (h : RangeBitset) (st : List ℕ) (rs : List Run) (v : Bool) (h₁ : RangeBitset) (st₁ : List ℕ) (p : Reassigns h st rs v h₁ st₁)
     (long : length st₁ ≡ length st) (r : Run) (d : Assigned) (st₂ : List ℕ) (e : AssignEnsures h₁ st₁ r.start r.end v d st₂) where
@@ -67,16 +71,21 @@ module _ (h : RangeBitset) (st : List ℕ) (rs : List Run) (v : Bool) (h₁ : Ra
         range_accepts h₁ (length st₁) r.end (storage_again h h₁ (length st) (length st₁) st₁ (assigned_runs s rs v) z p.same_words before long)
         (omega (arith, p.same_words, (within_last (capacity_of h) rs r w).1))
 
-    flag_is : d.head.allocated ≡ (h.allocated || (v && any_run (rs ++ r ∷ [])))
+    flag_is : (head_after h₁ d).allocated ≡ (h.allocated || (v && any_run (rs ++ r ∷ [])))
     flag_is =
         ap (λ (x : RangeBitset). x.allocated) (e.head ok (assigned_runs s rs v) before)
         ∙ rw (p.flag z s t (within_last (capacity_of h) rs r w).0, any_last rs r)
         (same₄ (λ x v a b. (x || (v && a)) || (v && b)) (λ x v a b. x || (v && (a || b))) tt h.allocated v (any_run rs) (ltb r.start r.end))
 
-    count_after : count_in d.answer ≡ changed_count (assigned_runs s rs v) r.start r.end v
-    count_after = count_in_lem d.answer _ (e.answers ok (assigned_runs s rs v) before)
+    count_after : count_in (answer_in d) ≡ changed_count (assigned_runs s rs v) r.start r.end v
+    count_after = by d (e.answers ok (assigned_runs s rs v) before)
+      where
+        by : (d : Assigned) → of_assigned d ≡ number (changed_count (assigned_runs s rs v) r.start r.end v)
+            → count_in (answer_in d) ≡ changed_count (assigned_runs s rs v) r.start r.end v
+        by (Ok c) q = cc
+        by (Err k) q = cc
 
-  pub reassigns_more : Reassigns h st (rs ++ r ∷ []) v d.head st₂
+  pub reassigns_more : Reassigns h st (rs ++ r ∷ []) v (head_after h₁ d) st₂
   reassigns_more =
       record {
         same_words = e.same_words ∙ p.same_words;
@@ -87,7 +96,7 @@ module _ (h : RangeBitset) (st : List ℕ) (rs : List Run) (v : Bool) (h₁ : Ra
 
 pub assigns_more : (h : RangeBitset) (st : List ℕ) (rs : List Run) (v : Bool) (n : ℕ) (h₁ : RangeBitset) (st₁ : List ℕ) → AssignsRuns h st rs v n h₁ st₁
     → length st₁ ≡ length st → (r : Run) (d : Assigned) (st₂ : List ℕ) → AssignEnsures h₁ st₁ r.start r.end v d st₂
-    → (c m : ℕ) → c ≡ count_in d.answer → m ≡ (n + c) % 4294967296 → AssignsRuns h st (rs ++ r ∷ []) v m d.head st₂
+    → (c m : ℕ) → c ≡ count_in (answer_in d) → m ≡ (n + c) % 4294967296 → AssignsRuns h st (rs ++ r ∷ []) v m (head_after h₁ d) st₂
 assigns_more h st rs v n h₁ st₁ p long r d st₂ e c m ec em =
     record {
       reassigns = reassigns_more h st rs v h₁ st₁ p.reassigns long r d st₂ e;
@@ -111,10 +120,10 @@ read_turn j at i slot e = rw (add-one i, e) (read_more j at i)
 module _ (h : RangeBitset) (st j : List ℕ) (at i : ℕ) (v : Bool) (n : ℕ) (h₁ : RangeBitset) (st₁ : List ℕ)
     (p : AssignsRuns h st (read_runs j at i) v n h₁ st₁) where
   pub assigns_turn : length st₁ ≡ length st → (slot : ℕ) → slot ≡ at + 2 * i → (d : Assigned) (st₂ : List ℕ)
-      → AssignEnsures h₁ st₁ (get_or j slot 0) (get_or j (slot + 1) 0) v d st₂ → (c m : ℕ) → c ≡ count_in d.answer → m ≡ (n + c) % 4294967296
-      → AssignsRuns h st (read_runs j at (i + 1)) v m d.head st₂
+      → AssignEnsures h₁ st₁ (get_or j slot 0) (get_or j (slot + 1) 0) v d st₂ → (c m : ℕ) → c ≡ count_in (answer_in d) → m ≡ (n + c) % 4294967296
+      → AssignsRuns h st (read_runs j at (i + 1)) v m (head_after h₁ d) st₂
   assigns_turn long slot k d st₂ e c m ec em =
-      subst (λ (x : List Run). AssignsRuns h st x v m d.head st₂) (sym (read_turn j at i slot k))
+      subst (λ (x : List Run). AssignsRuns h st x v m (head_after h₁ d) st₂) (sym (read_turn j at i slot k))
       (assigns_more h st (read_runs j at i) v n h₁ st₁ p long (run (get_or j slot 0) (get_or j (slot + 1) 0)) d st₂ e c m ec em)
 
   pub assigns_all : (k : ℕ) → i ≡ k → AssignsRuns h st (read_runs j at k) v n h₁ st₁
@@ -135,19 +144,25 @@ file_none h st file = reassigns_none h st true
 file_turn : (file : List ℕ) (i start end : ℕ) → run_at file i ≡ run start end → file_runs file (i + 1) ≡ file_runs file i ++ (run start end ∷ [])
 file_turn file i start end e = rw (add-one i, runs_more file 0 i, zero-add i, e)
 
-module _ (h : RangeBitset) (st file : List ℕ) (n i : ℕ) (h' : RangeBitset) (st' : List ℕ) (p : Reassigns h st (file_runs file i) true h' st') where
-  pub opens_turn : length st' ≡ length st → (start end : ℕ) → run_at file i ≡ run start end → (d : Assigned) (st₂ : List ℕ)
-      → AssignEnsures h' st' start end true d st₂ → Reassigns h st (file_runs file (i + 1)) true d.head st₂
-  opens_turn long start end k d st₂ e =
-      subst (λ (x : List Run). Reassigns h st x true d.head st₂) (sym (file_turn file i start end k))
-      (reassigns_more h st (file_runs file i) true h' st' p long (run start end) d st₂ e)
+-- one turn of a loop over a reader x of the file, and its end
+module _ (h : RangeBitset) (st file : List ℕ) (x x' : Runs) (h' : RangeBitset) (st' : List ℕ) (long : length st' ≡ length st) (file_is : x.file.now ≡ file)
+    (p : Reassigns h st (file_runs file x.at) true h' st') where
+  pub file_next : (start end : ℕ) → numbers (start ∷ end ∷ []) ≡ run_reply x.file.now x.at → x'.at ≡ index_after x.file.now x.at
+      → (d : Assigned) (st₂ : List ℕ) → AssignEnsures h' st' start end true d st₂
+      → (x'.at ≤ held_count file) × Reassigns h st (file_runs file x'.at) true (head_after h' d) st₂
+  file_next start end found moved d st₂ e =
+      let at_is : x'.at ≡ x.at + 1 = moved ∙ moved_on x.file.now x.at start end found in
+      let k = found_is file x.at start end (rw file_is at found) in
+      let more : Reassigns h st (file_runs file (x.at + 1)) true (head_after h' d) st₂ =
+      subst (λ (rs : List Run). Reassigns h st rs true (head_after h' d) st₂) (sym (file_turn file x.at start end k.1))
+      (reassigns_more h st (file_runs file x.at) true h' st' p long (run start end) d st₂ e) in
+      (omega (arith, k.0, at_is), subst (λ (n : ℕ). Reassigns h st (file_runs file n) true (head_after h' d) st₂) (sym at_is) more)
 
-  pub opens_all : i ≡ n → OpensRuns h st file n h' st'
-  opens_all e =
-      record { same_words = p.same_words; storage_kept = p.storage_kept; reassigns = λ w. subst (λ (k : ℕ). Reassigns h st (file_runs file k) true h' st') e p }
-
-  pub opens_short : held_count file ≤ i → i < n → OpensRuns h st file n h' st'
-  opens_short k l = record { same_words = p.same_words; storage_kept = p.storage_kept; reassigns = λ w. absurd (omega arith) }
+  pub file_end : x.at ≤ held_count file → numbers [] ≡ run_reply x.file.now x.at → Reassigns h st (file_runs file (held_count file)) true h' st'
+  file_end l none =
+      let n = found_none file x.at (rw file_is at none) in
+      let e : x.at ≡ held_count file = omega arith in
+      subst (λ (k : ℕ). Reassigns h st (file_runs file k) true h' st') e p
 
 -- ---- ascending runs
 

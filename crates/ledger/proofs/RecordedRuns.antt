@@ -37,14 +37,14 @@ apart j at x y k (inl h) = get_or-set_other (set j at x) (at + 1) k y 0 (λ z. o
 apart j at x y k (inr h) = get_or-set_other (set j at x) (at + 1) k y 0 (λ z. omega arith) ∙ get_or-set_other j at k x 0 (λ z. omega arith)
 
 -- a run's two ends
-pub stored_pair : (j : List ℕ) (at at' x y p q : ℕ) → at' ≡ at + 2 → at + 1 < length j → x ≡ p % 4294967296 → y ≡ q % 4294967296
-    → Puts (pair (run (p % 4294967296) (q % 4294967296))) at at' j (set (set j at x) (at + 1) y)
-stored_pair j at at' x y p q e h k l =
+pub stored_pair : (j : List ℕ) (at at' x y : ℕ) → at' ≡ at + 2 → at + 1 < length j
+    → Puts (pair (run x y)) at at' j (set (set j at x) (at + 1) y)
+stored_pair j at at' x y e h =
     record {
       low = omega arith;
       same_length = length-set (set j at x) (at + 1) y ∙ length-set j at x;
       others = outside;
-      here = rw e (two j at x y h ∙ ap₂ (λ (a b : ℕ). take at j ++ a ∷ b ∷ []) k l);
+      here = rw e (two j at x y h);
     }
   where
     outside : (i : ℕ) → (i < at) ⊎ (at' ≤ i) → get_or (set (set j at x) (at + 1) y) i 0 ≡ get_or j i 0

@@ -6,21 +6,16 @@ use Rattle.positions.specs.Positions.{Positions}
 use Rattle.range_bitset.specs.Layout.{needed}
 use Rattle.range_bitset.specs.Represents.{Represents}
 use Rattle.positions.specs.Replies.{refusal}
-use Rattle.range_bitset.specs.Answers.{of_counted, allowed_capacity, good_head, storage_refusal}
-use Rattle.range_bitset.specs.declared.Counted.{Counted}
-use Rattle.range_bitset.specs.declared.Counted.TheVariants as counted
-use Rattle.range_bitset.proofs.AcceptedHeads.{good_bounds, storage_accepted, accepted_storage, storage_bad, storage_good, storage_short, represented_good, fresh_good}
+use Rattle.answers.specs.Refusals.{number_of}
+use Rattle.answers.specs.declared.Refusal.{Refusal}
+use Rattle.answers.proofs.Numbers.{number_some}
+use Rattle.range_bitset.specs.Answers.{allowed_capacity, good_head, head_refusal, storage_refusal}
+use Rattle.range_bitset.proofs.AcceptedHeads.{good_bounds, head_declined, storage_accepted, accepted_storage, storage_short, storage_three, represented_good, fresh_good}
 use Rattle.ledger.specs.Machine.{Machine, Call, range, back, wipe, step}
 use Rattle.ledger.specs.Memory.{Memory, memory, call_refusal, Holds, good_ledger, lent_enough, refusal_for, lent_refusal, wipe_refusal}
 use Rattle.ledger.specs.Entries.{CallEnsures, flag_after, new_head}
 use Rattle.ledger.specs.declared.Ledger.{Ledger}
 use Rattle.ledger.proofs.Machines.{stayed}
-
--- ---- the answer and the head as `declined` gives them
-
-pub declined_as : (c : Call) (h : Ledger) (st j : List ℕ) (k : ℕ) (r : Counted) (h' : Ledger) → r ≡ counted.Refused k → h' ≡ h
-    → CallEnsures c (memory h st j) (refusal k) (memory h st j) → CallEnsures c (memory h st j) (of_counted r) (memory h' st j)
-declined_as c h st j k r h' p q d = rw (p, q) d
 
 -- ---- a call that the table refuses, given that the machine refuses it too
 
@@ -68,36 +63,36 @@ module _ (h : Ledger) where
   unfolding good_ledger
   good_again g l u = rw (g, le-leb h.journal 16384 l, le-leb h.used h.journal u)
 
--- ---- the tests of `refusal` in turn: the set's refusal, J, U, and then what is lent
+-- ---- the tests of `check` in turn: the set's head, J, U, and then what is lent
 
-module _ (h : Ledger) (j n k s : ℕ) (e : s ≡ storage_refusal h.set n) where
-  pub set_refused : s ≡ 2 → 2 ≡ refusal_for h j n k
+module _ (h : Ledger) (j n k : ℕ) where
+  pub head_refused : (r : Refusal) → number_of r ≡ head_refusal h.set → number_of r ≡ refusal_for h j n k
   unfolding refusal_for good_ledger
-  set_refused p = rw (storage_bad h.set n (sym e ∙ p))
+  head_refused r e = let d = head_declined h.set r e in rw (d.0, d.1)
 
-  module _ (p : s ≡ 2 → ⊥) where
-    set_good : good_head h.set ≡ true
-    set_good = storage_good h.set n (λ z. p (e ∙ z))
-
+  module _ (g : good_head h.set ≡ true) where
     pub journal_above : 16384 < h.journal → 2 ≡ refusal_for h j n k
     unfolding refusal_for good_ledger
-    journal_above l = rw (set_good, lt-leb h.journal 16384 l)
+    journal_above l = rw (g, lt-leb h.journal 16384 l)
 
     module _ (l : h.journal ≤ 16384) where
       pub used_above : h.journal < h.used → 2 ≡ refusal_for h j n k
       unfolding refusal_for good_ledger
-      used_above u = rw (set_good, le-leb h.journal 16384 l, lt-leb h.used h.journal u)
+      used_above u = rw (g, le-leb h.journal 16384 l, lt-leb h.used h.journal u)
 
       module _ (u : h.used ≤ h.journal) where
-        pub storage_less : (s ≡ 0 → ⊥) → 3 ≡ refusal_for h j n k
+        pub storage_less : (r : Refusal) → number_of r ≡ storage_refusal h.set n → number_of r ≡ refusal_for h j n k
         unfolding refusal_for lent_enough
-        storage_less z =
-            rw (good_again h set_good l u, lt-leb (needed h.set.words) n (storage_short h.set n set_good (λ q. z (e ∙ q))))
+        storage_less r e =
+            rw (good_again h g l u, lt-leb (needed h.set.words) n (storage_short h.set n g (λ q. number_some r (e ∙ q)))) (e ∙ storage_three h.set n g (λ q. number_some r (e ∙ q)))
 
-        pub storage_enough : (b : Bool) → s ≡ 0 → leb j k ≡ b → cond b 0 3 ≡ refusal_for h j n k
+        pub journal_short : storage_refusal h.set n ≡ 0 → k < j → 3 ≡ refusal_for h j n k
         unfolding refusal_for lent_enough
-        storage_enough b z q =
-            rw (good_again h set_good l u, le-leb (needed h.set.words) n (storage_accepted h.set n (sym e ∙ z)).1, q)
+        journal_short z q = rw (good_again h g l u, le-leb (needed h.set.words) n (storage_accepted h.set n z).1, lt-leb j k q)
+
+        pub all_enough : storage_refusal h.set n ≡ 0 → j ≤ k → 0 ≡ refusal_for h j n k
+        unfolding refusal_for lent_enough
+        all_enough z q = rw (good_again h g l u, le-leb (needed h.set.words) n (storage_accepted h.set n z).1, le-leb j k q)
 
 -- ---- what an accepted head and lent slices say
 

@@ -10,7 +10,7 @@ use Rattle.range_bitset.specs.Answers.{allowed_capacity, good_head, storage_refu
 use Rattle.ledger.specs.Machine.{Machine, fresh, Call, range, back, set_of, population, need_of, standing_call, used, range_verdict, step, after}
 use Rattle.ledger.specs.Journal.{written, journal_of}
 use Rattle.ledger.specs.Memory.{lent_enough}
-use Rattle.ledger.specs.Entries.{new_of, of_opened}
+use Rattle.ledger.specs.Entries.{new_of, of_new}
 
 -- ---- the set's calls, over a head of the capacity whose storage is just long enough
 
@@ -63,7 +63,7 @@ of_set capacity ls rs = record { given = set_replies capacity none ls; wanted = 
 -- the first reply is that of `new`
 abbrev of_ledger : ℕ → ℕ → List Line → List Reply → Case
 of_ledger capacity j ls rs =
-    record { given = of_opened (new_of capacity j (needed (capacity / 64)) j) ∷ replies (fresh capacity j) ls; wanted = number 0 ∷ rs }
+    record { given = of_new (new_of capacity j (needed (capacity / 64)) j) ∷ replies (fresh capacity j) ls; wanted = number 0 ∷ rs }
 
 abbrev mark : ℕ → ℕ → Line
 mark a e = do_call (range a e true)

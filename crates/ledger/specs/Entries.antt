@@ -1,17 +1,20 @@
 -- The ledger's promises: what new and open give, and the one promise of marking, clearing, take-back and wipe. Assumes nothing.
-use Rattle.std.specs.Prelude.{◌≡◌, ℕ, ◌+◌, ◌-◌, ◌*◌, ◌/◌, ◌<◌, ◌≤◌, Bool, true, false, cond, not, ◌&&◌, ◌||◌, ◌⊎◌, List, [], ◌∷◌, length, ◌==◌, ◌≢◌, nat_le, nat_lt, slice_index}
+use Rattle.std.specs.Prelude.{◌≡◌, ℕ, ◌+◌, ◌-◌, ◌*◌, ◌/◌, ◌<◌, ◌≤◌, Bool, true, false, cond, not, ◌&&◌, ◌||◌, ◌⊎◌, List, [], ◌∷◌, length, ◌==◌, ◌≢◌, nat_le, nat_lt, slice_index, Result, Ok, Err}
 use Rattle.range_bitset.specs.Layout.{SamePast}
 use Rattle.positions.specs.Positions.{Positions}
 use Rattle.range_bitset.specs.Represents.{Represents}
 use Rattle.positions.specs.Replies.{Reply, numbers, refused_with, number, refusal, refused, Accepted}
+use Rattle.answers.specs.Refusals.{number_of, of_result, answer_in, head_after}
+use Rattle.answers.specs.declared.Refusal.{Refusal}
+use Rattle.answers.specs.declared.Refusal.TheVariants.{Size, Short}
+use Rattle.answers.specs.declared.Changed.{Changed}
 use Rattle.range_bitset.specs.Answers.{of_counted, allowed_capacity}
 use Rattle.saved_list.specs.Format.{saved_words, saved_count, saved_capacity, saved_positions, headed, whole, first_bad_run}
 use Rattle.ledger.specs.Machine.{Machine, Standing, opened_with, Call, range, back, wipe, need_of, step}
 use Rattle.ledger.specs.Memory.{Memory, memory, lent_enough, call_refusal, Holds}
-use Rattle.ledger.specs.declared.Called.{Called}
 use Rattle.ledger.specs.declared.Ledger.{Ledger}
-use Rattle.ledger.specs.declared.Opened.{Opened}
-use Rattle.ledger.specs.declared.Opened.TheVariants as opened
+use Rattle.ledger.specs.declared.NotOpened.{NotOpened}
+use Rattle.ledger.specs.declared.NotOpened.TheVariants as why
 
 -- ---- marking, clearing, take-back and wipe
 
@@ -73,26 +76,39 @@ pub record CallEnsures (c : Call) (before : Memory) (r : Reply) (next : Memory) 
   pub holds : (m : Machine) → Holds before m → Holds next (step m c).next
   pub flag : (m : Machine) → Holds before m → next.head.set.allocated ≡ flag_after before.head.set.allocated m c r
 
+-- what a call answers: a count and the next head, or why it is refused, with the head as it was
+abbrev pub Called : Type 0
+Called = Result (Changed ℕ Ledger) Refusal
+
+abbrev pub of_called : Called → Reply
+of_called r = of_counted (answer_in r)
+
 -- the same of what an entry answers, with the numbers of the lent slices before and after
 abbrev pub CalledEnsures : Call → Ledger → List ℕ → List ℕ → List ℕ → List ℕ → Called → Type 0
-CalledEnsures c h st j st' j' r = CallEnsures c (memory h st j) (of_counted r.answer) (memory r.head st' j')
+CalledEnsures c h st j st' j' r = CallEnsures c (memory h st j) (of_called r) (memory (head_after h r) st' j')
 
 -- ---- new and open
 
 -- 0, or the refusal: 8 with the first bad run's index
+abbrev pub Opened : Type 0
+Opened = Result Ledger NotOpened
+
 abbrev pub of_opened : Opened → Reply
-of_opened (opened.Head h) = number 0
-of_opened (opened.Refused k) = refusal k
-of_opened (opened.BadRun i) = refused_with 8 (i ∷ [])
+of_opened (Ok h) = number 0
+of_opened (Err (why.Refused k)) = refusal (number_of k)
+of_opened (Err (why.BadRun i)) = refused_with 8 (i ∷ [])
+
+abbrev pub of_new : Result Ledger Refusal → Reply
+of_new r = of_result (λ h. number 0) r
 
 abbrev pub new_head : ℕ → ℕ → Bool → Ledger
 new_head W j x = record { set = record { words = W; len = 0; allocated = x }; journal = j; used = 0 }
 
 -- 1, then 3, or the head of a fresh ledger: its flag clear and U = 0
-unfoldable pub new_of : ℕ → ℕ → ℕ → ℕ → Opened
+unfoldable pub new_of : ℕ → ℕ → ℕ → ℕ → Result Ledger Refusal
 new_of capacity j n k =
     cond (allowed_capacity capacity && nat_le j 16384)
-    (cond (lent_enough (capacity / 64) j n k) (opened.Head (new_head (capacity / 64) j false)) (opened.Refused 3)) (opened.Refused 1)
+    (cond (lent_enough (capacity / 64) j n k) (Ok (new_head (capacity / 64) j false)) (Err Short)) (Err Size)
 
 -- 7 but for the length, 1, 7 for the length, 3, 8 with the first bad run's index
 unfoldable pub open_reply : List ℕ → ℕ → ℕ → ℕ → Reply
@@ -109,5 +125,5 @@ pub record OpenEnsures (file : List ℕ) (j : ℕ) (st journal : List ℕ) (r : 
   pub refuses : of_opened r ≡ open_reply file j (length st) (length journal)
   pub unchanged : (Accepted (of_opened r) → ⊥) → st' ≡ st
   pub storage_kept : SamePast (saved_words file) st st'
-  pub holds : (h : Ledger) → r ≡ opened.Head h → Holds (memory h st' journal) (opened_with (saved_capacity file) j (saved_positions file))
-  pub flag : (h : Ledger) → r ≡ opened.Head h → h.set.allocated ≡ not (saved_count file == 0)
+  pub holds : (h : Ledger) → r ≡ Ok h → Holds (memory h st' journal) (opened_with (saved_capacity file) j (saved_positions file))
+  pub flag : (h : Ledger) → r ≡ Ok h → h.set.allocated ≡ not (saved_count file == 0)

@@ -1,24 +1,20 @@
 -- Demand 3: one statement about a whole list of calls, from what an accepted new or open has just given. Assumes nothing.
-use Rattle.std.specs.Prelude.{◌≡◌, ℕ, ◌+◌, ◌<◌, ◌≤◌, true, false, List, [], ◌∷◌, length}
+use Rattle.std.specs.Prelude.{◌≡◌, ℕ, ◌+◌, ◌<◌, ◌≤◌, true, false, List, [], ◌∷◌, length, Ok}
 use Rattle.positions.specs.Positions.{count, first, one}
 use Rattle.positions.specs.Replies.{Reply, number, of_place}
-use Rattle.range_bitset.specs.Answers.{of_counted, of_tested, of_found}
+use Rattle.range_bitset.specs.Answers.{Counted, Tested, Found, of_counted, of_tested, of_found}
 use Rattle.range_bitset.specs.Entries.{GetEnsures, CountEnsures, NextEnsures}
-use Rattle.range_bitset.specs.declared.Tested.{Tested}
-use Rattle.range_bitset.specs.declared.Counted.{Counted}
-use Rattle.range_bitset.specs.declared.Found.{Found}
 use Rattle.saved_list.specs.Format.{saved_capacity, saved_positions}
 use Rattle.ledger.specs.Machine.{Machine, fresh, opened_with, Call, Outcome, after, set_of, population, used, changed_by}
 use Rattle.ledger.specs.Memory.{Memory, memory}
 use Rattle.ledger.specs.Entries.{CallEnsures, new_of, OpenEnsures}
 use Rattle.ledger.specs.declared.Ledger.{Ledger}
-use Rattle.ledger.specs.declared.Opened.TheVariants as opened
 
 -- what an accepted new or open has just given, and the plain machine fed the same
 pub data Begun : Memory → Machine → Type 0 where
-  by_new : {capacity j : ℕ} {h : Ledger} {st journal : List ℕ} → new_of capacity j (length st) (length journal) ≡ opened.Head h
+  by_new : {capacity j : ℕ} {h : Ledger} {st journal : List ℕ} → new_of capacity j (length st) (length journal) ≡ Ok h
       → Begun (memory h st journal) (fresh capacity j)
-  by_open : {file : List ℕ} {j : ℕ} {h : Ledger} {st st' journal : List ℕ} → OpenEnsures file j st journal (opened.Head h) st'
+  by_open : {file : List ℕ} {j : ℕ} {h : Ledger} {st st' journal : List ℕ} → OpenEnsures file j st journal (Ok h) st'
       → Begun (memory h st' journal) (opened_with (saved_capacity file) j (saved_positions file))
 
 -- a list of calls, each handed the memory as the call before left it, and what the entries promise of each

@@ -1,19 +1,19 @@
 -- Contracts of the inner functions. No caller of the crate sees them, and nothing here need be believed: the entries'
 -- promises speak of none of it. Assumes nothing.
-use Rattle.std.specs.Prelude.{◌≡◌, ℕ, zero, suc, ◌+◌, ◌-◌, ◌*◌, ◌/◌, ◌%◌, ◌<◌, ◌≤◌, min, Bool, true, false, cond, ◌&&◌, ◌||◌, ◌⊎◌, List, [], ◌∷◌, ◌++◌, length, take, ◌==◌, nat_lt, slice_index}
+use Rattle.std.specs.Prelude.{◌≡◌, ℕ, zero, suc, ◌+◌, ◌-◌, ◌*◌, ◌/◌, ◌%◌, ◌<◌, ◌≤◌, min, Bool, true, false, cond, ◌&&◌, ◌||◌, ◌⊎◌, List, [], ◌∷◌, ◌++◌, length, take, ◌==◌, nat_lt, nat_le, slice_index, Option, Some, None, Result, Ok, Err}
 use Rattle.positions.specs.Positions.{Positions, assigned, changed_count}
 use Rattle.positions.specs.Runs.{Run, run, changed_runs, assigned_runs}
 use Rattle.range_bitset.specs.Layout.{SamePast}
 use Rattle.range_bitset.specs.Represents.{Represents, capacity_of}
-use Rattle.range_bitset.specs.Answers.{range_refusal, storage_refusal}
+use Rattle.answers.specs.declared.Refusal.{Refusal}
+use Rattle.answers.specs.declared.Refusal.TheVariants.{Size}
+use Rattle.range_bitset.specs.Answers.{range_refusal, storage_refusal, allowed_capacity}
 use Rattle.range_bitset.specs.declared.RangeBitset.{RangeBitset}
-use Rattle.range_bitset.specs.declared.Counted.{Counted}
-use Rattle.range_bitset.specs.declared.Counted.TheVariants as counted
-use Rattle.saved_list.specs.Format.{runs_after, held_count}
+use Rattle.saved_list.specs.Format.{runs_after}
 use Rattle.ledger.specs.Machine.{need_of}
-use Rattle.ledger.specs.declared.Last.{Last}
-use Rattle.ledger.specs.declared.Last.TheVariants as last
 use Rattle.ledger.specs.Journal.{written}
+use Rattle.ledger.specs.Entries.{new_head}
+use Rattle.ledger.specs.declared.Ledger.{Ledger}
 
 -- the runs that a call changes, at most `most`, and its closing number, written into the journal from u on: u' numbers are then in use
 pub record WritesCall (h : RangeBitset) (st : List ℕ) (a e : ℕ) (v : Bool) (u most u' : ℕ) (j j' : List ℕ) : Type 0 where
@@ -59,26 +59,18 @@ pub record AssignsRuns (h : RangeBitset) (st : List ℕ) (rs : List Run) (v : Bo
   pub changed : storage_refusal h (length st) ≡ 0 → (s : Positions) → Represents h st s → Within (capacity_of h) rs
       → n ≡ changed_by_runs s rs v % 4294967296
 
--- ---- open
+-- ---- new and open
+
+-- 1, or the head of a ledger with nothing in it
+unfoldable pub fresh_of : ℕ → ℕ → Result Ledger Refusal
+fresh_of capacity j = cond (allowed_capacity capacity && nat_le j 16384) (Ok (new_head (capacity / 64) j false)) (Err Size)
 
 -- the first n runs of a saved list, as the reader gives them
 abbrev pub file_runs : List ℕ → ℕ → List Run
 file_runs file n = runs_after file 0 n
 
--- the first n runs of a file that holds so many, set one after the other
-pub record OpensRuns (h : RangeBitset) (st file : List ℕ) (n : ℕ) (h' : RangeBitset) (st' : List ℕ) : Type 0 where
-  pub same_words : h'.words ≡ h.words
-  pub storage_kept : SamePast h.words st st'
-  pub reassigns : n ≤ held_count file → Reassigns h st (file_runs file n) true h' st'
+-- ---- take-back
 
--- ---- small readings of the answers
-
-abbrev pub count_in : Counted → ℕ
-count_in (counted.Count n) = n
-count_in (counted.Refused k) = 0
-
--- the call that the last of u journal numbers closes; on any journal no more runs than the numbers can hold
-unfoldable pub last_of : List ℕ → ℕ → Last
-last_of j u =
-    cond (u == 0) last.NoCall
-    (last.Standing (min (slice_index j (u - 1) / 2) ((u - 1) / 2)) (slice_index j (u - 1) % 2 == 1))
+-- the call that the last of u journal numbers closes, its run count and value; on any journal no more runs than the numbers can hold
+unfoldable pub last_of : List ℕ → ℕ → Option (ℕ × Bool)
+last_of j u = cond (u == 0) None (Some (min (slice_index j (u - 1) / 2) ((u - 1) / 2), slice_index j (u - 1) % 2 == 1))

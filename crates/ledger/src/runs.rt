@@ -1,32 +1,24 @@
 // Runs given one value: those of the last call in the journal, and those of a saved list. Assumes nothing.
-ghost use Rattle.std.specs.Prelude.{◌≡◌, ◌+◌, ◌*◌, ◌≤◌, length};
-ghost use Rattle.ledger.specs.Inner.{read_runs, AssignsRuns, OpensRuns, last_of, count_in};
+ghost use Rattle.std.specs.Prelude.{◌≡◌, ◌+◌, ◌*◌, ◌≤◌, length, true};
+ghost use Rattle.saved_list.specs.Format.{held_count};
+ghost use Rattle.ledger.specs.Inner.{read_runs, file_runs, AssignsRuns, Reassigns, last_of};
 
-use crate::{Last, Ledger, Reassigned};
-use range_bitset::{Counted, RangeBitset};
-use saved_list::FoundRun;
-use std::num::wrapping_add_u32;
+use crate::Ledger;
+use answers::Changed;
+use range_bitset::RangeBitset;
 
 impl Ledger {
-    // The call that the last of `used` journal numbers closes. Any journal is safe: no more runs than it can hold.
-    pub(crate) fn last_call(journal: &[u32], used: u32) -> Last
+    // The call that the last of `used` journal numbers closes: its run count and value. Any journal is safe: no more runs than it can
+    // hold.
+    pub(crate) fn last_call(journal: &[u32], used: u32) -> Option<(u32, bool)>
         requires { used ≤ length journal.now }
         ensures { result ≡ last_of journal.now used }
     {
-        if used == 0 {
-            return Last::NoCall;
-        }
-        let last = journal[(used - 1) as usize];
-        let most = (used - 1) / 2;
-        let runs = last / 2;
-        if runs <= most {
-            Last::Standing(runs, last % 2 == 1)
-        } else {
-            Last::Standing(most, last % 2 == 1)
-        }
+        let last = journal[..used as usize].last()?;
+        Some(((last / 2).min((used - 1) / 2), last % 2 == 1))
     }
 
-    // Give `runs` runs of the journal, from `first` on, one value.
+    // Give `runs` runs of the journal, from `first` on, one value. A run that the set refuses changes nothing.
     pub(crate) fn assign_runs(
         set: RangeBitset,
         storage: &mut [u64],
@@ -34,55 +26,36 @@ impl Ledger {
         first: u32,
         runs: u32,
         value: bool,
-    ) -> Reassigned
+    ) -> Changed<u32, RangeBitset>
         requires { (first + 2 * runs ≤ length journal.now) × (first + 2 * runs ≤ 16384) }
-        ensures { AssignsRuns set storage.old (read_runs journal.now first runs) value result.changed result.head storage.new }
+        ensures { AssignsRuns set storage.old (read_runs journal.now first runs) value result.answer result.head storage.new }
     {
-        let mut head = set;
-        let mut changed = 0u32;
-        let mut slot = first as usize;
-        let mut i = 0u32;
-        while i < runs {
+        let mut all = Changed {
+            answer: 0u32,
+            head: set,
+        };
+        for i in 0..runs {
+            let slot = (first + 2 * i) as usize;
             let start = journal[slot] as usize;
             let end = journal[slot + 1] as usize;
-            let done = head.assign(storage, start, end, value);
-            let answer = done.answer;
-            changed = wrapping_add_u32(changed, Self::count_of(answer));
-            head = done.head;
-            slot += 2;
-            i += 1;
+            if let Ok(done) = all.head.assign(storage, start, end, value) {
+                all.answer = all.answer.wrapping_add(done.answer);
+                all.head = done.head;
+            }
         }
-        Reassigned { changed, head }
+        all
     }
 
-    // Set the first `runs` runs of a saved list.
-    pub(crate) fn assign_file(
-        set: RangeBitset,
-        storage: &mut [u64],
-        file: &[u8],
-        runs: u32,
-    ) -> RangeBitset
-        ensures { OpensRuns set storage.old file.now runs result storage.new }
+    // Set the runs of a saved list.
+    pub(crate) fn assign_file(set: RangeBitset, storage: &mut [u64], file: &[u8]) -> RangeBitset
+        ensures { Reassigns set storage.old (file_runs file.now (held_count file.now)) true result storage.new }
     {
         let mut head = set;
-        let mut i = 0u32;
-        while i < runs {
-            let FoundRun::At(start, end) = saved_list::run_at(file, i as usize) else {
-                return head;
-            };
-            let done = head.assign(storage, start as usize, end as usize, true);
-            head = done.head;
-            i += 1;
+        for run in saved_list::Runs::new(file) {
+            if let Ok(done) = head.assign(storage, run.start as usize, run.end as usize, true) {
+                head = done.head;
+            }
         }
         head
-    }
-
-    fn count_of(answer: Counted) -> u32
-        ensures { result ≡ count_in answer }
-    {
-        match answer {
-            Counted::Count(n) => n,
-            Counted::Refused(_) => 0,
-        }
     }
 }

@@ -10,8 +10,8 @@ ghost use Rattle.ledger.specs.Memory.{memory};
 ghost use Rattle.ledger.specs.Entries.{CallEnsures, CalledEnsures};
 ghost use Rattle.ledger.specs.History.{Chain};
 
-use ledger::{Called, Ledger};
-use range_bitset::Counted;
+use answers::{Changed, Refusal};
+use ledger::Ledger;
 
 // The by-value core of marking (`value` true) and clearing (`value` false).
 pub fn assign(
@@ -21,7 +21,7 @@ pub fn assign(
     start: usize,
     end: usize,
     value: bool,
-) -> Called
+) -> Result<Changed<u32, Ledger>, Refusal>
     ensures { CalledEnsures (range start end value) head storage.old journal.old storage.new journal.new result }
 {
     if value {
@@ -39,30 +39,34 @@ pub fn assign_lent(
     start: usize,
     end: usize,
     value: bool,
-) -> Counted
+) -> Result<u32, Refusal>
     ensures { CallEnsures (range start end value) (memory head.old storage.old journal.old) (of_counted result) (memory head.new storage.new journal.new) }
 {
-    let out = assign(*head, storage, journal, start, end, value);
-    *head = out.head;
-    out.answer
+    let done = assign(*head, storage, journal, start, end, value)?;
+    *head = done.head;
+    Ok(done.answer)
 }
 
 // Take the last standing call back.
-pub fn take_back_lent(head: &mut Ledger, storage: &mut [u64], journal: &[u32]) -> Counted
+pub fn take_back_lent(
+    head: &mut Ledger,
+    storage: &mut [u64],
+    journal: &[u32],
+) -> Result<u32, Refusal>
     ensures { CallEnsures back (memory head.old storage.old journal.now) (of_counted result) (memory head.new storage.new journal.now) }
 {
-    let out = head.take_back(storage, journal);
-    *head = out.head;
-    out.answer
+    let done = head.take_back(storage, journal)?;
+    *head = done.head;
+    Ok(done.answer)
 }
 
 // Empty the set and the journal.
-pub fn wipe_lent(head: &mut Ledger, storage: &mut [u64]) -> Counted
+pub fn wipe_lent(head: &mut Ledger, storage: &mut [u64]) -> Result<u32, Refusal>
     ensures { (j : List ℕ) → CallEnsures wipe (memory head.old storage.old j) (of_counted result) (memory head.new storage.new j) }
 {
-    let out = head.wipe(storage);
-    *head = out.head;
-    out.answer
+    let done = head.wipe(storage)?;
+    *head = done.head;
+    Ok(done.answer)
 }
 
 // The lent form of marking behind a by-value one.
@@ -73,37 +77,41 @@ pub fn assign_through(
     start: usize,
     end: usize,
     value: bool,
-) -> Called
+) -> Result<Changed<u32, Ledger>, Refusal>
     ensures through { CalledEnsures (range start end value) head storage.old journal.old storage.new journal.new result }
 {
     let mut lent = head;
-    let answer = assign_lent(&mut lent, storage, journal, start, end, value);
-    Called { answer, head: lent }
+    let answer = assign_lent(&mut lent, storage, journal, start, end, value)?;
+    Ok(Changed { answer, head: lent })
 }
 
 // The lent form of take-back behind a by-value one.
-pub fn take_back_through(head: Ledger, storage: &mut [u64], journal: &[u32]) -> Called
+pub fn take_back_through(
+    head: Ledger,
+    storage: &mut [u64],
+    journal: &[u32],
+) -> Result<Changed<u32, Ledger>, Refusal>
     ensures { CalledEnsures back head storage.old journal.now storage.new journal.now result }
 {
     let mut lent = head;
-    let answer = take_back_lent(&mut lent, storage, journal);
-    Called { answer, head: lent }
+    let answer = take_back_lent(&mut lent, storage, journal)?;
+    Ok(Changed { answer, head: lent })
 }
 
 // The lent form of wipe behind a by-value one.
-pub fn wipe_through(head: Ledger, storage: &mut [u64]) -> Called
+pub fn wipe_through(head: Ledger, storage: &mut [u64]) -> Result<Changed<u32, Ledger>, Refusal>
     ensures { (j : List ℕ) → CalledEnsures wipe head storage.old j storage.new j result }
 {
     let mut lent = head;
-    let answer = wipe_lent(&mut lent, storage);
-    Called { answer, head: lent }
+    let answer = wipe_lent(&mut lent, storage)?;
+    Ok(Changed { answer, head: lent })
 }
 
 // The answers of two calls, and the head after them.
-#[derive(Clone, Copy)]
+#[derive(Clone, Copy, Debug, PartialEq, Eq)]
 pub struct Two {
-    pub first: Counted,
-    pub second: Counted,
+    pub first: Result<u32, Refusal>,
+    pub second: Result<u32, Refusal>,
     pub head: Ledger,
 }
 
@@ -119,15 +127,14 @@ pub fn assign_then_back(
 ) -> Two
     ensures { Chain (memory head storage.old journal.old) (range start end value ∷ back ∷ []) (of_counted result.first ∷ of_counted result.second ∷ []) (memory result.head storage.new journal.new) }
 {
-    let one = assign(head, storage, journal, start, end, value);
-    let first = one.answer;
-    let next = one.head;
-    let two = take_back_through(next, storage, journal);
-    let second = two.answer;
-    let last = two.head;
+    let (first, mut head) = match assign(head, storage, journal, start, end, value) {
+        Ok(done) => (Ok(done.answer), done.head),
+        Err(refusal) => (Err(refusal), head),
+    };
+    let second = take_back_lent(&mut head, storage, journal);
     Two {
         first,
         second,
-        head: last,
+        head,
     }
 }

@@ -1,42 +1,99 @@
-// Replay: a list of calls, lent as slices of numbers, run from a new or an opened ledger through the entries themselves.
-// The contract is the one statement about the whole list. Assumes nothing of its callers: no entry has a `requires`.
+// Replay: a list of calls, run from a new or an opened ledger through the entries themselves. The contract is the one statement
+// about the whole list. Assumes nothing of its callers: no entry has a `requires`.
 #![tactic(auto)]
 
-ghost use Rattle.std.specs.Prelude.{◌≡◌, ◌≤◌, min, length};
+ghost use Rattle.std.specs.Prelude.{◌≡◌, min, length};
 ghost use Rattle.range_bitset.specs.Answers.{of_counted};
 ghost use Rattle.ledger.specs.Memory.{memory};
-ghost use Rattle.ledger.specs.Entries.{CalledEnsures};
-ghost use Rattle.ledger_replay.specs.Replay.{encoded, call_of, code_of, ReplaysNew, ReplaysOpen};
-ghost use Rattle.ledger_replay.specs.Inner.{Chained, Continues};
+ghost use Rattle.ledger.specs.Entries.{CallEnsures, CalledEnsures};
+ghost use Rattle.ledger_replay.specs.Replay.{meant, ReplaysNew, ReplaysOpen};
+ghost use Rattle.ledger_replay.specs.Inner.{Chained};
 
-use ledger::{Called, Ledger, Opened};
-use range_bitset::Counted;
+use answers::{Changed, Refusal};
+use ledger::{Ledger, NotOpened};
 
-// The head after the calls and how many were run, or the refusal of new or open.
-#[derive(Clone, Copy)]
-pub enum Replayed {
-    Ran(Ledger, usize),
-    Refused(u8),
-    BadRun(usize),
+// A call of a ledger.
+#[derive(Clone, Copy, Debug, PartialEq, Eq)]
+pub enum Call {
+    Mark { start: usize, end: usize },
+    Clear { start: usize, end: usize },
+    MarkPoint(usize),
+    ClearPoint(usize),
+    TakeBack,
+    Wipe,
 }
 
-// From a new ledger. Call i has `kinds[i]`, `starts[i]` and `ends[i]`: kind 0 marks start..end and 1 clears it, 2 marks the
-// point start and 3 clears it, 4 takes back, any other kind wipes. Its answer goes to `answers[i]`: a count as it is,
-// refusal k as 2^32 + k. Where a slice is shorter than another, as many calls are run as all four have.
+// A kind, a start and an end: kind 0 marks start..end and 1 clears it, 2 marks the point start and 3 clears it, 4 takes back,
+// any other kind wipes.
+impl From<(u8, u64, u64)> for Call {
+    ghost use Rattle.std.specs.Prelude.{◌≡◌};
+    ghost use Rattle.ledger_replay.specs.Replay.{meant, call_of};
+
+    ghost from_gives = { λ numbers call. meant call ≡ call_of numbers.0 numbers.1 numbers.2 };
+
+    fn from(numbers: (u8, u64, u64)) -> Call {
+        let (kind, start, end) = numbers;
+        let (start, end) = (start as usize, end as usize);
+        match kind {
+            0 => Call::Mark { start, end },
+            1 => Call::Clear { start, end },
+            2 => Call::MarkPoint(start),
+            3 => Call::ClearPoint(start),
+            4 => Call::TakeBack,
+            _ => Call::Wipe,
+        }
+    }
+}
+
+impl Call {
+    // The call, through its entry.
+    fn run(
+        self,
+        head: Ledger,
+        storage: &mut [u64],
+        journal: &mut [u32],
+    ) -> Result<Changed<u32, Ledger>, Refusal>
+        ensures { CalledEnsures (meant self) head storage.old journal.old storage.new journal.new result }
+    {
+        match self {
+            Call::Mark { start, end } => head.mark(storage, journal, start, end),
+            Call::Clear { start, end } => head.clear(storage, journal, start, end),
+            Call::MarkPoint(index) => head.mark_point(storage, journal, index),
+            Call::ClearPoint(index) => head.clear_point(storage, journal, index),
+            Call::TakeBack => head.take_back(storage, journal),
+            Call::Wipe => head.wipe(storage),
+        }
+    }
+
+    // The same where the head is lent: a refused call leaves it.
+    fn run_lent(
+        self,
+        head: &mut Ledger,
+        storage: &mut [u64],
+        journal: &mut [u32],
+    ) -> Result<u32, Refusal>
+        ensures { CallEnsures (meant self) (memory head.old storage.old journal.old) (of_counted result) (memory head.new storage.new journal.new) }
+    {
+        let done = self.run(*head, storage, journal)?;
+        *head = done.head;
+        Ok(done.answer)
+    }
+}
+
+// From a new ledger. The answer of call i goes to `answers[i]`; as many calls are run as there are and have room there, and
+// their number is answered with the head after them. A ledger that is refused runs none.
 pub fn replay_new(
     capacity: usize,
     limit: usize,
     storage: &mut [u64],
     journal: &mut [u32],
-    kinds: &[u8],
-    starts: &[u64],
-    ends: &[u64],
-    answers: &mut [u64],
-) -> Replayed
-    ensures { ReplaysNew capacity limit (encoded kinds.now starts.now ends.now) storage.old journal.old answers.old result storage.new journal.new answers.new }
+    calls: &[Call],
+    answers: &mut [Result<u32, Refusal>],
+) -> Result<Changed<usize, Ledger>, Refusal>
+    ensures { ReplaysNew capacity limit calls.now storage.old journal.old answers.old result storage.new journal.new answers.new }
 {
-    let opened = Ledger::new(capacity, limit, storage, journal);
-    replay(opened, storage, journal, kinds, starts, ends, answers)
+    let head = Ledger::new(capacity, limit, storage, journal)?;
+    Ok(replay(head, storage, journal, calls, answers))
 }
 
 // The same from a ledger opened on a saved list.
@@ -45,109 +102,33 @@ pub fn replay_open(
     limit: usize,
     storage: &mut [u64],
     journal: &mut [u32],
-    kinds: &[u8],
-    starts: &[u64],
-    ends: &[u64],
-    answers: &mut [u64],
-) -> Replayed
-    ensures { ReplaysOpen file.now limit (encoded kinds.now starts.now ends.now) storage.old journal.old answers.old result storage.new journal.new answers.new }
+    calls: &[Call],
+    answers: &mut [Result<u32, Refusal>],
+) -> Result<Changed<usize, Ledger>, NotOpened>
+    ensures { ReplaysOpen file.now limit calls.now storage.old journal.old answers.old result storage.new journal.new answers.new }
 {
-    let opened = Ledger::open(file, limit, storage, journal);
-    replay(opened, storage, journal, kinds, starts, ends, answers)
+    let head = Ledger::open(file, limit, storage, journal)?;
+    Ok(replay(head, storage, journal, calls, answers))
 }
 
-// From what new or open gave.
+// The calls, one after the other: each is lent the head as the call before left it.
 fn replay(
-    opened: Opened,
-    storage: &mut [u64],
-    journal: &mut [u32],
-    kinds: &[u8],
-    starts: &[u64],
-    ends: &[u64],
-    answers: &mut [u64],
-) -> Replayed
-    ensures { Continues opened (encoded kinds.now starts.now ends.now) storage.old journal.old answers.old result storage.new journal.new answers.new }
-{
-    match opened {
-        Opened::Head(head) => {
-            let calls = least(
-                least(kinds.len(), starts.len()),
-                least(ends.len(), answers.len()),
-            );
-            let end = run(head, storage, journal, kinds, starts, ends, answers, calls);
-            Replayed::Ran(end, calls)
-        }
-        Opened::Refused(number) => Replayed::Refused(number),
-        Opened::BadRun(index) => Replayed::BadRun(index),
-    }
-}
-
-fn least(a: usize, b: usize) -> usize
-    ensures { result ≡ min a b }
-{
-    if a <= b { a } else { b }
-}
-
-// The first `calls` calls, one after the other: each is handed the head as the call before left it.
-fn run(
     start: Ledger,
     storage: &mut [u64],
     journal: &mut [u32],
-    kinds: &[u8],
-    starts: &[u64],
-    ends: &[u64],
-    answers: &mut [u64],
-    calls: usize,
-) -> Ledger
-    requires { (calls ≤ length kinds.now) × (calls ≤ length starts.now) × (calls ≤ length ends.now) × (calls ≤ length answers.old) }
-    ensures { Chained calls (memory start storage.old journal.old) (encoded kinds.now starts.now ends.now) answers.old answers.new (memory result storage.new journal.new) }
+    calls: &[Call],
+    answers: &mut [Result<u32, Refusal>],
+) -> Changed<usize, Ledger>
+    ensures all { result.answer ≡ min (length calls.now) (length answers.old) }
+    ensures chained { Chained result.answer (memory start storage.old journal.old) calls.now answers.old answers.new (memory result.head storage.new journal.new) }
 {
     let mut head = start;
-    let mut i = 0;
-    while i < calls {
-        let done = one_call(
-            head,
-            storage,
-            journal,
-            kinds[i],
-            starts[i] as usize,
-            ends[i] as usize,
-        );
-        let answer = done.answer;
-        answers[i] = code(answer);
-        head = done.head;
-        i += 1;
+    let count = calls.len().min(answers.len());
+    for (i, call) in calls[..count].iter().enumerate() {
+        answers[i] = call.run_lent(&mut head, storage, journal);
     }
-    head
-}
-
-// One call, through the entry for its kind.
-fn one_call(
-    head: Ledger,
-    storage: &mut [u64],
-    journal: &mut [u32],
-    kind: u8,
-    start: usize,
-    end: usize,
-) -> Called
-    ensures { CalledEnsures (call_of kind start end) head storage.old journal.old storage.new journal.new result }
-{
-    match kind {
-        0 => head.mark(storage, journal, start, end),
-        1 => head.clear(storage, journal, start, end),
-        2 => head.mark_point(storage, journal, start),
-        3 => head.clear_point(storage, journal, start),
-        4 => head.take_back(storage, journal),
-        _ => head.wipe(storage),
-    }
-}
-
-// An answer as a number.
-fn code(answer: Counted) -> u64
-    ensures { result ≡ code_of (of_counted answer) }
-{
-    match answer {
-        Counted::Count(n) => n as u64,
-        Counted::Refused(k) => 0x1_0000_0000 + (k as u64),
+    Changed {
+        answer: count,
+        head,
     }
 }

@@ -52,55 +52,25 @@ puts at at' l x e h =
     outside k (inl b) = over_outside at l x k (inl b)
     outside k (inr b) = over_outside at l x k (inr (omega arith))
 
--- ---- numbers, big-endian
+-- ---- the header, and a run
 
-same16 : (x y : ℕ) → x ≡ y % 65536 → bytes16 x ≡ bytes16 y
-same16 x y e =
-    let p : x / 256 % 256 ≡ y / 256 % 256 = omega arith in
-    let q : x % 256 ≡ y % 256 = omega arith in
-    rw (p, q)
+-- what 32 bits come to, big-endian, is the format's
+word_bytes : (n : ℕ) → n / 16777216 % 256 ∷ n / 65536 % 256 ∷ n / 256 % 256 ∷ n % 256 ∷ [] ≡ bytes32 n
+word_bytes n = let p : n / 16777216 % 256 ≡ n / 65536 / 256 % 256 = omega arith in rw p
 
-pub stored16 : (at y : ℕ) (x : List ℕ) → y < 65536 → set (set x at (y / 256)) (at + 1) (y % 256) ≡ overwritten at (bytes16 y) x
+pub stored_word : (at n : ℕ) (b x x' : List ℕ) → b ≡ n / 16777216 % 256 ∷ n / 65536 % 256 ∷ n / 256 % 256 ∷ n % 256 ∷ [] → x' ≡ overwritten at b x
+    → x' ≡ overwritten at (bytes32 n) x
+stored_word at n b x x' e f = rw (f, e, word_bytes n)
+
+-- the parts of a header stored one behind the other
+pub stored_header : (w n : ℕ) (x x₀ x₁ x₂ x₃ : List ℕ) → x₀ ≡ overwritten 0 mark x → x₁ ≡ overwritten 3 (bytes16 1) x₀
+    → x₂ ≡ overwritten 5 (bytes16 w) x₁ → x₃ ≡ overwritten 7 (bytes32 n) x₂ → x₃ ≡ overwritten 0 (header_bytes w n) x
 unfolding overwritten
-stored16 at y x h = let p : y / 256 % 256 ≡ y / 256 = omega arith in rw (p, add-one at)
-
-pub stored32 : (at y a b : ℕ) (x x₁ x₂ : List ℕ) → a ≡ y / 65536 % 65536 → b ≡ y % 65536
-    → x₁ ≡ overwritten at (bytes16 a) x → x₂ ≡ overwritten (at + 2) (bytes16 b) x₁ → x₂ ≡ overwritten at (bytes32 y) x
-stored32 at y a b x x₁ x₂ p q e f =
-    f ∙ ap (λ (l : List ℕ). overwritten (at + 2) l x₁) (same16 b y q)
-    ∙ ap (λ (z : List ℕ). overwritten (at + 2) (bytes16 y) z) (e ∙ ap (λ (l : List ℕ). overwritten at l x) (same16 a (y / 65536) p))
-    ∙ sym (over_append at (bytes16 (y / 65536)) (bytes16 y) x)
-
-pub stored_mark : (x : List ℕ) → set (set (set x 0 77) 1 83) 2 76 ≡ overwritten 0 mark x
-unfolding overwritten
-stored_mark x = refl
-
-pub stored_header : (w n k : ℕ) (x x₀ x₁ x₂ x₃ : List ℕ) → k ≡ w % 65536 → x₀ ≡ overwritten 0 mark x → x₁ ≡ overwritten 3 (bytes16 1) x₀
-    → x₂ ≡ overwritten 5 (bytes16 k) x₁ → x₃ ≡ overwritten 7 (bytes32 n) x₂ → x₃ ≡ overwritten 0 (header_bytes w n) x
-unfolding overwritten
-stored_header w n k x x₀ x₁ x₂ x₃ p d e f g =
-    g ∙ ap (λ (z : List ℕ). overwritten 7 (bytes32 n) z)
-    (f ∙ ap (λ (l : List ℕ). overwritten 5 l x₁) (same16 k w p)
-    ∙ ap (λ (z : List ℕ). overwritten 5 (bytes16 w) z) (e ∙ ap (λ (z : List ℕ). overwritten 3 (bytes16 1) z) d))
-
--- a position's low 32 bits are the bytes that it is stored by
-low_bytes : (p : ℕ) → bytes32 (p % 4294967296) ≡ bytes32 p
-low_bytes p =
-    let a : p % 4294967296 / 65536 / 256 % 256 ≡ p / 65536 / 256 % 256 = omega arith in
-    let b : p % 4294967296 / 65536 % 256 ≡ p / 65536 % 256 = omega arith in
-    let c : p % 4294967296 / 256 % 256 ≡ p / 256 % 256 = omega arith in
-    let d : p % 4294967296 % 256 ≡ p % 256 = omega arith in
-    rw (a, b, c, d)
+stored_header w n x x₀ x₁ x₂ x₃ d e f g = rw (g, f, e, d)
 
 -- a run's two ends, one behind the other
-pub stored_run : (at p q : ℕ) (x x₁ x₂ : List ℕ) → x₁ ≡ overwritten at (bytes32 p) x → x₂ ≡ overwritten (at + 4) (bytes32 q) x₁ → at + 8 ≤ length x
-    → Puts (run_bytes (run (p % 4294967296) (q % 4294967296))) at (at + 8) x x₂
-stored_run at p q x x₁ x₂ e f h =
-    subst (λ (l : List ℕ). Puts l at (at + 8) x x₂) (sym low)
-    (subst (λ (z : List ℕ). Puts (bytes32 p ++ bytes32 q) at (at + 8) x z) (sym both) (puts at (at + 8) (bytes32 p ++ bytes32 q) x refl h))
-  where
-    low : run_bytes (run (p % 4294967296) (q % 4294967296)) ≡ bytes32 p ++ bytes32 q
-    low = ap₂ (λ (l m : List ℕ). l ++ m) (low_bytes p) (low_bytes q)
-
-    both : x₂ ≡ overwritten at (bytes32 p ++ bytes32 q) x
-    both = f ∙ ap (λ (z : List ℕ). overwritten (at + 4) (bytes32 q) z) e ∙ sym (over_append at (bytes32 p) (bytes32 q) x)
+pub stored_run : (at at' p q : ℕ) (x x₁ x₂ : List ℕ) → x₁ ≡ overwritten at (bytes32 p) x → x₂ ≡ overwritten (at + 4) (bytes32 q) x₁ → at' ≡ at + 8 → at' ≤ length x
+    → Puts (run_bytes (run p q)) at at' x x₂
+stored_run at at' p q x x₁ x₂ e f a h =
+    let both : x₂ ≡ overwritten at (bytes32 p ++ bytes32 q) x = rw (f, e) (sym (over_append at (bytes32 p) (bytes32 q) x)) in
+    rw both (puts at at' (bytes32 p ++ bytes32 q) x a h)

@@ -10,7 +10,11 @@ use Rattle.range_bitset.specs.Represents.{Represents, capacity_of}
 use Rattle.range_bitset.specs.Answers.{storage_refusal, range_refusal}
 use Rattle.range_bitset.proofs.AcceptedHeads.{range_accepts}
 use Rattle.range_bitset.specs.declared.RangeBitset.{RangeBitset}
-use Rattle.range_bitset.specs.declared.Counted.TheVariants as counted
+use Rattle.std.proofs.Common.{Ok, Err}
+use Rattle.answers.specs.Refusals.{number_of}
+use Rattle.answers.specs.declared.Refusal.{Refusal}
+use Rattle.answers.specs.declared.Refusal.TheVariants.{NoRoom}
+use Rattle.answers.proofs.Numbers.{number_some}
 use Rattle.saved_list.specs.Format.{header_bytes, run_bytes, file_of}
 use Rattle.saved_list.proofs.WrittenFiles.{file_length}
 use Rattle.set_runs.specs.Walks.{RunsFit, WritesRuns}
@@ -56,11 +60,11 @@ refusal_next h n k z = rw z
 
 -- ---- refused: whatever the reason, the call gives its number and the buffer as it was
 
-module _ (h : RangeBitset) (st file : List ℕ) (k : ℕ) where
-  declined : ((write_refusal h (length st) (length file) ≡ 0 → ⊥) → refusal k ≡ refusal (write_refusal h (length st) (length file)))
-      → (write_refusal h (length st) (length file) ≡ 0 → k ≡ 9) → (storage_refusal h (length st) ≡ 0 → length file < 11 + 4 * capacity_of h)
-      → (storage_refusal h (length st) ≡ 0 → (s : Positions) → Represents h st s → refusal k ≡ write_reply (file_for h s) (length file))
-      → WriteEnsures h st file (counted.Refused k) file
+module _ (h : RangeBitset) (st file : List ℕ) (k : Refusal) where
+  declined : ((write_refusal h (length st) (length file) ≡ 0 → ⊥) → refusal (number_of k) ≡ refusal (write_refusal h (length st) (length file)))
+      → (write_refusal h (length st) (length file) ≡ 0 → number_of k ≡ 9) → (storage_refusal h (length st) ≡ 0 → length file < 11 + 4 * capacity_of h)
+      → (storage_refusal h (length st) ≡ 0 → (s : Positions) → Represents h st s → refusal (number_of k) ≡ write_reply (file_for h s) (length file))
+      → WriteEnsures h st file (Err k) file
   declined a b c d =
       record {
         refuses = a;
@@ -75,16 +79,17 @@ module _ (h : RangeBitset) (st file : List ℕ) (k : ℕ) where
       }
 
 -- 2 and 3
-pub declined_head : (h : RangeBitset) (st file : List ℕ) (k : ℕ) → k ≡ storage_refusal h (length st) → (k ≡ 0 → ⊥) → WriteEnsures h st file (counted.Refused k) file
-declined_head h st file k e n =
+pub declined_head : (h : RangeBitset) (st file : List ℕ) (k : Refusal) → number_of k ≡ storage_refusal h (length st) → WriteEnsures h st file (Err k) file
+declined_head h st file k e =
+    let n = number_some k in
     let f = refusal_first h (length st) (length file) (λ z. n (e ∙ z)) in
     declined h st file k (λ x. ap refusal (e ∙ sym f)) (λ z. absurd (n (e ∙ sym f ∙ z))) (λ z. absurd (n (e ∙ z))) (λ z s r. absurd (n (e ∙ z)))
 
 -- 9 where the header does not fit
-pub declined_header : (h : RangeBitset) (st file : List ℕ) → storage_refusal h (length st) ≡ 0 → length file < 11 → WriteEnsures h st file (counted.Refused 9) file
+pub declined_header : (h : RangeBitset) (st file : List ℕ) → storage_refusal h (length st) ≡ 0 → length file < 11 → WriteEnsures h st file (Err NoRoom) file
 declined_header h st file z l =
     let f : write_refusal h (length st) (length file) ≡ 9 = rw (refusal_next h (length st) (length file) z, lt-leb 11 (length file) l) in
-    declined h st file 9 (λ x. ap refusal (sym f)) (λ y. refl) (λ y. omega arith)
+    declined h st file NoRoom (λ x. ap refusal (sym f)) (λ y. refl) (λ y. omega arith)
     (λ y s r. sym (reply_short (file_for h s) (length file) (omega (arith, file_length (capacity_of h) (runs s 0 (capacity_of h))))))
 
 -- as many runs as the buffer has room for, or as the capacity can have
@@ -101,9 +106,9 @@ module _ (h : RangeBitset) (st file : List ℕ) (most : ℕ) (z : storage_refusa
   own s = ap length (own_runs s 0 (capacity_of h))
 
   -- 9 where the runs do not fit
-  pub declined_runs : (fit : Bool) → RunsFit h st 0 (capacity_of h) false most fit → fit ≡ false → WriteEnsures h st file (counted.Refused 9) file
+  pub declined_runs : (fit : Bool) → RunsFit h st 0 (capacity_of h) false most fit → fit ≡ false → WriteEnsures h st file (Err NoRoom) file
   declined_runs fit f not_fit =
-      declined h st file 9 (λ x. absurd (x accepted_header)) (λ y. refl) (λ y. short) (λ y s r. sym (reply_short (file_for h s) (length file) (many s r)))
+      declined h st file NoRoom (λ x. absurd (x accepted_header)) (λ y. refl) (λ y. short) (λ y s r. sym (reply_short (file_for h s) (length file) (many s r)))
     where
       short : length file < 11 + 4 * capacity_of h
       short = by (leb (capacity_of h - 0) (2 * most)) refl
@@ -160,7 +165,7 @@ module _ (h : RangeBitset) (st file : List ℕ) (most : ℕ) (z : storage_refusa
         ∙ sym (append_assoc (header_bytes h.words n) (encoded run_bytes (runs s 0 (capacity_of h))) (drop (11 + 8 * n) file))
         ∙ ap₂ (λ (l : List ℕ) (k : ℕ). l ++ drop k file) (file_parts h (runs s 0 (capacity_of h)) n (count s t)) (sym answer ∙ sym (as_long s t))
 
-    pub written : WriteEnsures h st file (counted.Count r) file₂
+    pub written : WriteEnsures h st file (Ok r) file₂
     written =
         record {
           refuses = λ x. absurd (x accepted_header);

@@ -4,9 +4,8 @@ use Rattle.positions.specs.Positions.{Positions}
 use Rattle.positions.specs.Runs.{runs}
 use Rattle.positions.specs.Replies.{Reply, number, refusal, Accepted}
 use Rattle.range_bitset.specs.Represents.{Represents, capacity_of}
-use Rattle.range_bitset.specs.Answers.{of_counted, storage_refusal, first_of}
+use Rattle.range_bitset.specs.Answers.{Counted, of_counted, storage_refusal, first_of}
 use Rattle.range_bitset.specs.declared.RangeBitset.{RangeBitset}
-use Rattle.range_bitset.specs.declared.Counted.{Counted}
 use Rattle.saved_list.specs.Format.{file_of}
 
 -- the saved list of a set of this head

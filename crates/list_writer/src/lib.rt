@@ -4,106 +4,72 @@
 // Assumes nothing of its callers: the entry has no `requires`.
 #![tactic(auto)]
 
-ghost use Rattle.std.specs.Prelude.{◌≡◌, false, ◌+◌, ◌*◌, ◌≤◌, min as least, length};
-ghost use Rattle.saved_list.specs.Format.{mark, bytes16, bytes32, header_bytes, run_bytes};
+ghost use Rattle.std.specs.Prelude.{◌≡◌, false, ◌+◌, ◌*◌, ◌^◌, ◌≤◌, ◌<◌, length};
+ghost use Rattle.saved_list.specs.Format.{header_bytes, run_bytes};
 ghost use Rattle.set_runs.specs.Walks.{WritesRuns};
 ghost use Rattle.list_writer.specs.Entry.{WriteEnsures};
 ghost use Rattle.list_writer.specs.Inner.{overwritten};
 
-use range_bitset::{Counted, RangeBitset};
+use answers::Refusal;
+use range_bitset::RangeBitset;
 use saved_list::{HEADER_SIZE, MARK, RUN_SIZE, VERSION};
+use set_runs::Runs;
 
-// The smaller of two numbers.
-fn min(x: usize, y: usize) -> usize
-    ensures { result ≡ least x y }
+// Bytes stored at a place.
+fn put(file: &mut [u8], at: usize, bytes: &[u8])
+    requires { at + length bytes.now ≤ length file.old }
+    ensures { file.new ≡ overwritten at bytes.now file.old }
 {
-    if x <= y { x } else { y }
-}
-
-// A 16-bit number at a place.
-fn put16(file: &mut [u8], at: usize, x: u16)
-    requires { at + 2 ≤ length file.old }
-    ensures { file.new ≡ overwritten at (bytes16 x) file.old }
-{
-    file[at] = (x / 256) as u8;
-    file[at + 1] = (x % 256) as u8;
-}
-
-// A number's low 32 bits at a place.
-fn put32(file: &mut [u8], at: usize, x: usize)
-    requires { at + 4 ≤ length file.old }
-    ensures { file.new ≡ overwritten at (bytes32 x) file.old }
-{
-    put16(file, at, (x / 65536 % 65536) as u16);
-    put16(file, at + 2, (x % 65536) as u16);
-}
-
-// The letters, at the front.
-fn put_mark(file: &mut [u8])
-    requires { 3 ≤ length file.old }
-    ensures { file.new ≡ overwritten 0 mark file.old }
-{
-    file[0] = MARK[0];
-    file[1] = MARK[1];
-    file[2] = MARK[2];
+    file[at..at + bytes.len()].copy_from_slice(bytes);
 }
 
 // The letters, the version, W and the run count.
-fn put_header(file: &mut [u8], words: u32, runs: usize)
+fn put_header(file: &mut [u8], words: u16, runs: u32)
     requires { 11 ≤ length file.old }
     ensures { file.new ≡ overwritten 0 (header_bytes words runs) file.old }
 {
-    put_mark(file);
-    put16(file, 3, VERSION);
-    put16(file, 5, (words % 65536) as u16);
-    put32(file, 7, runs);
+    put(file, 0, &MARK);
+    put(file, 3, &VERSION.to_be_bytes());
+    put(file, 5, &words.to_be_bytes());
+    put(file, 7, &runs.to_be_bytes());
 }
 
-// Write the set's runs, at most `most`, behind the header's place. Answers how many they are.
-fn write_runs(
-    set: RangeBitset,
-    storage: &[u64],
-    file: &mut [u8],
-    capacity: usize,
-    most: usize,
-) -> usize
+// Write the runs, at most `most`, behind the header's place. Answers how many they are.
+fn write_runs(file: &mut [u8], runs: Runs, most: usize) -> usize
     requires { 11 + 8 * most ≤ length file.old }
-    ensures { WritesRuns run_bytes set storage.now 0 capacity false most result 11 (11 + 8 * result) file.old file.new }
+    ensures { WritesRuns run_bytes runs.entry.set runs.entry.storage.now runs.entry.from runs.entry.end runs.entry.value most result 11 (11 + 8 * result) file.old file.new }
 {
-    let mut at = HEADER_SIZE;
-    let mut runs = 0;
-    let mut from = 0;
-    while runs < most {
-        let start = set_runs::find(set, storage, from, capacity, true);
-        if start >= capacity {
-            return runs;
-        }
-        from = set_runs::find(set, storage, start, capacity, false);
-        put32(file, at, start);
-        put32(file, at + 4, from);
-        at += RUN_SIZE;
-        runs += 1;
+    let mut written = 0;
+    for run in runs.take(most) {
+        let at = HEADER_SIZE + RUN_SIZE * written;
+        put(file, at, &run.start.to_be_bytes());
+        put(file, at + 4, &run.end.to_be_bytes());
+        written += 1;
     }
-    runs
+    written
 }
 
 // Write the set's saved list to the front of the buffer. Answers its length.
-pub fn write(set: RangeBitset, storage: &[u64], file: &mut [u8]) -> Counted
+pub fn write(set: RangeBitset, storage: &[u64], file: &mut [u8]) -> Result<u32, Refusal>
     ensures { WriteEnsures set storage.now file.old result file.new }
 {
-    let refused = RangeBitset::refusal(set, storage.len());
-    if refused != 0 {
-        return Counted::Refused(refused);
-    }
+    set.check_storage(storage.len())?;
     if file.len() < HEADER_SIZE {
-        return Counted::Refused(9);
+        return Err(Refusal::NoRoom);
     }
     let capacity = 64 * (set.words as usize);
-    let most = min((file.len() - HEADER_SIZE) / RUN_SIZE, capacity / 2);
-    if !set_runs::runs_fit(set, storage, 0, capacity, false, most) {
-        return Counted::Refused(9);
+    let most = ((file.len() - HEADER_SIZE) / RUN_SIZE).min(capacity / 2);
+    let runs = Runs {
+        set,
+        storage,
+        from: 0,
+        end: capacity,
+        value: false,
+    };
+    if !runs.fit(most) {
+        return Err(Refusal::NoRoom);
     }
-    let runs = write_runs(set, storage, file, capacity, most);
-    put_header(file, set.words, runs);
-    Counted::Count((HEADER_SIZE + RUN_SIZE * runs) as u32)
+    let written = write_runs(file, runs, most);
+    put_header(file, set.words as u16, written as u32);
+    Ok((HEADER_SIZE + RUN_SIZE * written) as u32)
 }

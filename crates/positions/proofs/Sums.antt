@@ -14,6 +14,10 @@ pub only_at_most : (b : Bool) (v : ℕ) → only_if b v ≤ v
 only_at_most true v = le_of_eq refl
 only_at_most false v = zero-le
 
+only_le : (b : Bool) (v u : ℕ) → v ≤ u → only_if b v ≤ only_if b u
+only_le true v u h = h
+only_le false v u h = zero-le
+
 -- where only a set's positions matter, an equation is asked for those alone
 only_ext : (b : Bool) (v u : ℕ) → (b ≡ true → v ≡ u) → only_if b v ≡ only_if b u
 only_ext true v u h = h refl
@@ -54,6 +58,10 @@ module _ (s : ℕ → Bool) (f g : ℕ → ℕ) where
   pub over_terms : (a n : ℕ) → ((i : ℕ) → a ≤ i → i < a + n → s i ≡ true → f i ≡ g i) → sum_over s f a n ≡ sum_over s g a n
   unfolding sum_over
   over_terms a n h = T.total_ext (λ i. only_if (s i) (f i)) (λ i. only_if (s i) (g i)) a n (λ i l k. only_ext (s i) (f i) (g i) (h i l k))
+
+  pub over_le : (a n : ℕ) → ((i : ℕ) → a ≤ i → i < a + n → f i ≤ g i) → sum_over s f a n ≤ sum_over s g a n
+  unfolding sum_over
+  over_le a n h = T.total_le (λ i. only_if (s i) (f i)) (λ i. only_if (s i) (g i)) a n (λ i l k. only_le (s i) (f i) (g i) (h i l k))
 
 -- every term at most v
 pub over_bound : (s : ℕ → Bool) (f : ℕ → ℕ) (v a n : ℕ) → ((i : ℕ) → a ≤ i → i < a + n → f i ≤ v) → sum_over s f a n ≤ n * v

@@ -1,11 +1,16 @@
 -- What an accepted head, storage, range and point say, what is enough for each to be accepted, and a fresh set's head. Assumes nothing.
-use Rattle.range_bitset.proofs.Kit.{◌≡◌, refl, sym, ap, ◌∙◌, Bool, true, false, cond, false≢true, List, ℕ, zero, suc, ◌*◌, ◌/◌, ◌%◌, ◌≤◌, ◌<◌, arith, eqb, leb, ltb, ones, length, leb-true, le-leb, ltb-true, ltb-false, lt-ltb, le-ltb, eqb-true, eqb-false}
+use Rattle.range_bitset.proofs.Kit.{◌≡◌, refl, sym, ap, ◌∙◌, Bool, true, false, cond, false≢true, List, ℕ, zero, suc, ◌*◌, ◌/◌, ◌%◌, ◌≤◌, ◌<◌, arith, eqb, leb, ltb, ones, length, leb-true, le-leb, ltb-true, ltb-false, lt-ltb, le-ltb, eqb-true, eqb-false, ne_eqb}
 use Rattle.positions.specs.Positions.{Positions, none}
 use Rattle.positions.proofs.Bools.{and_left, and_right}
 use Rattle.positions.proofs.Counts.{count_le, count_none}
 use Rattle.range_bitset.specs.Layout.{allowed, needed}
 use Rattle.range_bitset.specs.Represents.{Represents, capacity_of}
-use Rattle.range_bitset.specs.Answers.{allowed_capacity, good_head, storage_refusal, range_refusal, point_refusal, first_of}
+use Rattle.positions.specs.Replies.{refusal}
+use Rattle.answers.specs.Refusals.{number_of}
+use Rattle.answers.specs.declared.Refusal.{Refusal}
+use Rattle.answers.proofs.Numbers.{number_some}
+use Rattle.range_bitset.specs.Answers.{allowed_capacity, good_head, head_refusal, storage_refusal, range_refusal, point_refusal, first_of}
+use Rattle.range_bitset.specs.Entries.{of_head}
 use Rattle.range_bitset.specs.Inner.{Room}
 use Rattle.range_bitset.specs.declared.RangeBitset.{RangeBitset}
 
@@ -26,7 +31,34 @@ good_bounds h e =
     let q = allowed_bounds h.words (and_left (allowed h.words) (leb h.len (capacity_of h)) e) in
     (q.0, q.1, leb-true _ _ (and_right (allowed h.words) (leb h.len (capacity_of h)) e))
 
+-- ---- the head alone
+
+pub head_accepted : (h : RangeBitset) → head_refusal h ≡ 0 → good_head h ≡ true
+unfolding head_refusal
+head_accepted h e = by (good_head h) refl e
+  where
+    by : (g : Bool) → good_head h ≡ g → ◌≡◌ {A = ℕ} (cond g 0 2) 0 → good_head h ≡ true
+    by true p z = p
+    by false p z = absurd (omega arith)
+
+-- a head that is refused by itself
+pub head_declined : (h : RangeBitset) (k : Refusal) → number_of k ≡ head_refusal h → (good_head h ≡ false) × (number_of k ≡ 2)
+unfolding head_refusal
+head_declined h k e = by (good_head h) refl e
+  where
+    by : (g : Bool) → good_head h ≡ g → number_of k ≡ cond g 0 2 → (good_head h ≡ false) × (number_of k ≡ 2)
+    by true p z = absurd (number_some k z)
+    by false p z = (p, z)
+
+pub head_refused : (h : RangeBitset) (n : ℕ) (k : Refusal) → number_of k ≡ head_refusal h → refusal (number_of k) ≡ of_head h n
+unfolding of_head
+head_refused h n k e = let d = head_declined h k e in rw (d.0, d.1)
+
 -- ---- head and storage
+
+pub head_first : (h : RangeBitset) (n : ℕ) (k : Refusal) → number_of k ≡ head_refusal h → number_of k ≡ storage_refusal h n
+unfolding storage_refusal
+head_first h n k e = let d = head_declined h k e in rw (d.0, d.1)
 
 pub storage_accepted : (h : RangeBitset) (n : ℕ) → storage_refusal h n ≡ 0 → (good_head h ≡ true) × (needed h.words ≤ n)
 unfolding storage_refusal
@@ -42,30 +74,17 @@ pub accepted_storage : (h : RangeBitset) (n : ℕ) → good_head h ≡ true → 
 unfolding storage_refusal
 accepted_storage h n g l = rw (g, le-ltb n (needed h.words) l)
 
--- 2 tells the head, and behind a good head anything but 0 that the storage is short
-pub storage_bad : (h : RangeBitset) (n : ℕ) → storage_refusal h n ≡ 2 → good_head h ≡ false
-unfolding storage_refusal
-storage_bad h n e = by (good_head h) refl (ltb n (needed h.words)) e
-  where
-    by : (g : Bool) → good_head h ≡ g → (l : Bool) → ◌≡◌ {A = ℕ} (cond g (cond l 3 0) 2) 2 → good_head h ≡ false
-    by true p true z = absurd (omega arith)
-    by true p false z = absurd (omega arith)
-    by false p l z = p
-
-pub storage_good : (h : RangeBitset) (n : ℕ) → (storage_refusal h n ≡ 2 → ⊥) → good_head h ≡ true
-unfolding storage_refusal
-storage_good h n f = by (good_head h) refl
-  where
-    by : (g : Bool) → good_head h ≡ g → good_head h ≡ true
-    by true p = p
-    by false p = absurd (f (rw p))
-
+-- behind a good head anything but 0 tells that the storage is short
 pub storage_short : (h : RangeBitset) (n : ℕ) → good_head h ≡ true → (storage_refusal h n ≡ 0 → ⊥) → n < needed h.words
 storage_short h n g f = by (ltb n (needed h.words)) refl
   where
     by : (l : Bool) → ltb n (needed h.words) ≡ l → n < needed h.words
     by true p = ltb-true n (needed h.words) p
     by false p = absurd (f (accepted_storage h n g (ltb-false n (needed h.words) p)))
+
+pub storage_three : (h : RangeBitset) (n : ℕ) → good_head h ≡ true → (storage_refusal h n ≡ 0 → ⊥) → storage_refusal h n ≡ 3
+unfolding storage_refusal
+storage_three h n g f = rw (g, lt-ltb n (needed h.words) (storage_short h n g f))
 
 -- where the first checks pass there is room
 pub accepted : (h : RangeBitset) (st : List ℕ) → storage_refusal h (length st) ≡ 0 → Room h.words st
@@ -118,6 +137,18 @@ chain k t e = by (eqb k 0) refl t refl e
     by true p true q z = (eqb-true k 0 p, q)
     by true p false q z = absurd (omega arith)
     by false p u q z = absurd (eqb-false k 0 p z)
+
+-- what refuses head and storage refuses a call with a range or a point too
+first_refused : (k : Refusal) (n : ℕ) (next : ℕ) → number_of k ≡ n → number_of k ≡ first_of n next
+first_refused k n next e = rw (ne_eqb n 0 (λ z. number_some k (e ∙ z)), e)
+
+pub range_first : (h : RangeBitset) (n e : ℕ) (k : Refusal) → number_of k ≡ storage_refusal h n → number_of k ≡ range_refusal h n e
+unfolding range_refusal
+range_first h n e k z = first_refused k _ _ z
+
+pub point_first : (h : RangeBitset) (n i : ℕ) (k : Refusal) → number_of k ≡ storage_refusal h n → number_of k ≡ point_refusal h n i
+unfolding point_refusal
+point_first h n i k z = first_refused k _ _ z
 
 pub range_accepted : (h : RangeBitset) (st : List ℕ) (e : ℕ) → range_refusal h (length st) e ≡ 0 → Room h.words st × (e ≤ capacity_of h)
 unfolding range_refusal

@@ -6,10 +6,11 @@ use Rattle.positions.proofs.Counts.{count_swap}
 use Rattle.positions.proofs.Assigned.{assigned_before, assigned_behind, changed_apart}
 use Rattle.bits.specs.Bit.{mask, put}
 use Rattle.bits.proofs.Words.{mask_ext, put_one}
+use Rattle.std.specs.Int.{abs_diff}
 use Rattle.range_bitset.specs.Layout.{blocks, words_of, at, word, nonzero, full, population, top_nonzero, top_full, Slot, SamePast}
 use Rattle.range_bitset.specs.Read.{ALL, mixed_read}
 use Rattle.range_bitset.specs.Represents.{word_of, any_word, all_word, nonzero_mask, full_mask, block_count, only, masked, StoredOpen}
-use Rattle.range_bitset.specs.Inner.{Room, Spans, apart, moved, In, stores, find, AllIn, write_word, count_moved, Opens, Closes, Assigns}
+use Rattle.range_bitset.specs.Inner.{Room, Spans, moved, In, stores, find, AllIn, write_word, count_moved, Opens, Closes, Assigns}
 use Rattle.range_bitset.proofs.Slots.{leaves_at, twice_at, twice_kept}
 use Rattle.range_bitset.proofs.SetWords.{in_block, word_same, word_ones, ones_most, block_most, mixed_is}
 use Rattle.range_bitset.proofs.OpenBlocks.{open_here}
@@ -139,7 +140,7 @@ pub word_assigned : (W k m : ℕ) (v : Bool) (st st₁ st₂ st₃ st₄ : List 
     → Opens W (k / 64) st st₁ → old ≡ mixed_read W st₁ k → new ≡ put 64 old m v
     → st₂ ≡ stores W st₁ (write_word W st₁ k new)
     → st₃ ≡ stores W st₂ (count_moved W st₂ (k / 64) (ones old) (ones new))
-    → n ≡ apart (ones old) (ones new)
+    → n ≡ abs_diff (ones old) (ones new)
     → Closes W (k / 64) st₃ st₄
     → (a b : ℕ) → Spans m a b → a ≤ b → b ≤ 64 → Assigns W (64 * k + a) (64 * k + b) v st st₄ n
 word_assigned W k m v st st₁ st₂ st₃ st₄ old new n room l fit o eo en e₂ e₃ ed c a b sp h u =
@@ -147,8 +148,8 @@ word_assigned W k m v st st₁ st₂ st₃ st₄ old new n room l fit o eo en e�
     (λ s t. write_holds W st₁ s (assigned s X Y v) k room l (agree s) st₂ st₃ new t (fresh s t) e₂
     (e₃ ∙ ap (λ (x : ℕ). stores W st₂ (count_moved W st₂ (k / 64) (ones x) (ones new))) (was s t)))
     (λ s t.
-    ed ∙ ap₂ (λ (x y : ℕ). apart (ones x) (ones y)) (was s t) (fresh s t)
-    ∙ ap₂ apart (word_ones s k) (word_ones (assigned s X Y v) k)
+    ed ∙ ap₂ (λ (x y : ℕ). abs_diff (ones x) (ones y)) (was s t) (fresh s t)
+    ∙ ap₂ abs_diff (word_ones s k) (word_ones (assigned s X Y v) k)
     ∙ changed_apart s X Y v (64 * k) (64 * k + 64) (omega arith) (omega arith))
   where
     X : ℕ

@@ -8,13 +8,15 @@ use Rattle.positions.proofs.Assigned.{assigned_count, assigned_empty, assigned_n
 use Rattle.bits.proofs.Bits.{bit_pow}
 use Rattle.range_bitset.specs.Layout.{needed}
 use Rattle.range_bitset.specs.Represents.{Stored, Represents, capacity_of}
-use Rattle.positions.specs.Replies.{Reply, number, refusal, refused, Accepted}
+use Rattle.positions.specs.Replies.{Reply, number, refusal, Accepted}
 use Rattle.range_bitset.specs.Answers.{range_refusal, point_refusal, storage_refusal}
 use Rattle.range_bitset.specs.Entries.{Changes, AssignEnsures, SetEnsures, ClearEnsures}
 use Rattle.range_bitset.specs.Inner.{Room, Spans, Begins, Assigns}
 use Rattle.range_bitset.specs.declared.RangeBitset.{RangeBitset}
-use Rattle.range_bitset.specs.declared.Counted.TheVariants as counted
-use Rattle.range_bitset.specs.declared.Tested.TheVariants as tested
+use Rattle.std.proofs.Common.{Ok}
+use Rattle.answers.specs.Refusals.{number_of}
+use Rattle.answers.specs.declared.Refusal.{Refusal}
+use Rattle.answers.proofs.Numbers.{number_some}
 use Rattle.range_bitset.proofs.AgreeingSets.{stored_agrees}
 use Rattle.range_bitset.proofs.AcceptedHeads.{range_accepted, point_accepted}
 
@@ -28,18 +30,18 @@ head_is h n x p q = λ i. record { words = h.words; len = p i; allocated = q i }
 
 module _ {f : Positions → Reply} {g : Positions → Positions} {begins clears : Bool} (k : ℕ) (h : RangeBitset) (st : List ℕ) where
   -- refused
-  pub unaccepted : (n : ℕ) (r : Reply) → n ≡ k → (n ≡ 0 → ⊥) → r ≡ refusal n → Changes k h st f g begins clears r h st
-  unaccepted n r e z q =
+  pub unaccepted : (n : Refusal) → number_of n ≡ k → Changes k h st f g begins clears (refusal (number_of n)) h st
+  unaccepted n e =
       record {
-        refuses = ap refused q ∙ e;
-        accepts = λ w. absurd (z (e ∙ w));
+        refuses = e;
+        accepts = λ w. absurd (number_some n (e ∙ w));
         unchanged = λ w. (refl, refl);
         storage_kept = refl;
         same_words = refl;
         idle = λ w o. (refl, refl);
-        answers = λ w. absurd (z (e ∙ w));
-        head = λ w. absurd (z (e ∙ w));
-        represents = λ w. absurd (z (e ∙ w));
+        answers = λ w. absurd (number_some n (e ∙ w));
+        head = λ w. absurd (number_some n (e ∙ w));
+        represents = λ w. absurd (number_some n (e ∙ w));
       }
 
   -- accepted, and the set is as it was
@@ -134,7 +136,7 @@ module _ (h : RangeBitset) (st st₁ st₂ : List ℕ) (a e : ℕ) (v : Bool) (n
 -- ---- `assign`
 
 module _ (h : RangeBitset) (st : List ℕ) (a e : ℕ) (v : Bool) (z : range_refusal h (length st) e ≡ 0) where
-  pub assign_empty : e ≤ a → AssignEnsures h st a e v (record { answer = counted.Count 0; head = h }) st
+  pub assign_empty : e ≤ a → AssignEnsures h st a e v (Ok (record { answer = 0; head = h })) st
   assign_empty l =
       same_set _ h st _ z tt
       (λ s t. (ap number (sym (changed_empty s a e v l)), assigned_empty s a e v l, sym (ap (λ (x : Bool). h.allocated || (v && x)) (le-ltb a e l) ∙ flag v h.allocated)))
@@ -143,7 +145,7 @@ module _ (h : RangeBitset) (st : List ℕ) (a e : ℕ) (v : Bool) (z : range_ref
       flag true x = or-false x
       flag false x = or-false x
 
-  pub assign_idle : v ≡ false → h.len ≡ 0 → AssignEnsures h st a e v (record { answer = counted.Count 0; head = h }) st
+  pub assign_idle : v ≡ false → h.len ≡ 0 → AssignEnsures h st a e v (Ok (record { answer = 0; head = h })) st
   assign_idle f n =
       same_set _ h st _ z tt
       (λ s t.
@@ -153,7 +155,7 @@ module _ (h : RangeBitset) (st : List ℕ) (a e : ℕ) (v : Bool) (z : range_ref
   pub assign_done : (st₁ st₂ : List ℕ) (n m : ℕ) → a < e → (v ≡ false → h.len ≡ 0 → ⊥)
       → Begins h.words h.allocated st st₁ → Assigns h.words a e v st₁ st₂ n
       → m ≡ cond v ((h.len + n) % 2 ^ 32) ((h.len + (2 ^ 32 - n)) % 2 ^ 32)
-      → AssignEnsures h st a e v (record { answer = counted.Count n; head = record { words = h.words; len = m; allocated = true } }) st₂
+      → AssignEnsures h st a e v (Ok (record { answer = n; head = record { words = h.words; len = m; allocated = true } })) st₂
   assign_done st₁ st₂ n m l busy b w em =
       let q = range_accepted h st e z in
       change_done h st st₁ st₂ a e v n q.0 q.1 b w _ m _ z tt em busy
@@ -175,7 +177,7 @@ single_spans j i = bit_pow j i ∙ go (place j (j + 1) i)
     go (behind p e) = ne_eqb i j (λ z. omega arith) ∙ sym e
 
 module _ (h : RangeBitset) (st : List ℕ) (i : ℕ) (v : Bool) (z : point_refusal h (length st) i ≡ 0) where
-  pub set_idle : v ≡ false → h.len ≡ 0 → SetEnsures h st i v (record { answer = tested.Is false; head = h }) st
+  pub set_idle : v ≡ false → h.len ≡ 0 → SetEnsures h st i v (Ok (record { answer = false; head = h })) st
   set_idle f n =
       let u = (point_accepted h st i z).1 in
       same_set _ h st _ z tt
@@ -195,7 +197,7 @@ module _ (h : RangeBitset) (st : List ℕ) (i : ℕ) (v : Bool) (z : point_refus
       → Begins h.words h.allocated st st₁ → w ≡ 2 ^ (i % 64)
       → ((a b : ℕ) → Spans w a b → a ≤ b → b ≤ 64 → Assigns h.words (64 * (i / 64) + a) (64 * (i / 64) + b) v st₁ st₂ n)
       → m ≡ cond v ((h.len + n) % 2 ^ 32) ((h.len + (2 ^ 32 - n)) % 2 ^ 32)
-      → SetEnsures h st i v (record { answer = tested.Is (not (eqb n 0)); head = record { words = h.words; len = m; allocated = true } }) st₂
+      → SetEnsures h st i v (Ok (record { answer = not (eqb n 0); head = record { words = h.words; len = m; allocated = true } })) st₂
   set_done st₁ st₂ n m w busy b ew as' em =
       let q = point_accepted h st i z in
       let j : 64 * (i / 64) + i % 64 ≡ i = omega arith in
@@ -214,7 +216,7 @@ module _ (h : RangeBitset) (st : List ℕ) (z : storage_refusal h (length st) �
   empty : 0 ≡ count none 0 (capacity_of h)
   empty = sym (count_none none 0 (capacity_of h) (λ i p q. refl))
 
-  pub clear_idle : h.len ≡ 0 → ClearEnsures h st (record { answer = counted.Count 0; head = h }) st
+  pub clear_idle : h.len ≡ 0 → ClearEnsures h st (Ok (record { answer = 0; head = h })) st
   clear_idle nothing =
       record {
         refuses = sym z;
@@ -234,7 +236,7 @@ module _ (h : RangeBitset) (st : List ℕ) (z : storage_refusal h (length st) �
       }
 
   pub clear_done : (st' : List ℕ) → (h.len ≡ 0 → ⊥) → Begins h.words false st st'
-      → ClearEnsures h st (record { answer = counted.Count h.len; head = record { words = h.words; len = 0; allocated = h.allocated } }) st'
+      → ClearEnsures h st (Ok (record { answer = h.len; head = record { words = h.words; len = 0; allocated = h.allocated } })) st'
   clear_done st' some b =
       record {
         refuses = sym z;

@@ -1,12 +1,12 @@
--- What `first_from`, `last_before` and `size_of` give back, and the masks by which a walk goes on. Assumes nothing.
-use Rattle.range_bitset.proofs.Kit.{◌≡◌, refl, sym, ap, ◌∙◌, ◌≢◌, Bool, true, false, true≢false, false≢true, not, ◌&&◌, cond, and-false, and-true, List, ℕ, suc, zero-le, ◌+◌, ◌*◌, ◌-◌, ◌%◌, ◌^◌, ◌≤◌, ◌<◌, lt_of_le_of_lt, lt_of_le-ne, dec_lt, arith, eqb, leb, ltb, lt-ltb, le-ltb, ltb-true, eq-eqb, ne_eqb, bit_and, and_le_l, ones, ones-le, count_trailing_zeros, trailing_of_zero, count_leading_zeros, leading_of_zero, get_or}
+-- What `first_from` and `last_before` give back, and the masks by which a walk goes on. Assumes nothing.
+use Rattle.range_bitset.proofs.Kit.{◌≡◌, refl, sym, ap, ◌∙◌, ◌≢◌, Bool, true, false, true≢false, not, ◌&&◌, and-false, and-true, ℕ, suc, zero-le, ◌-◌, ◌^◌, ◌≤◌, ◌<◌, lt_of_le_of_lt, lt_of_le-ne, dec_lt, arith, eqb, leb, ltb, lt-ltb, le-ltb, ltb-true, eq-eqb, ne_eqb, bit_and, and_le_l, count_trailing_zeros, trailing_of_zero, count_leading_zeros, leading_of_zero}
 use Rattle.positions.proofs.Bools.{and_left, and_right}
 use Rattle.positions.proofs.Ranges.{within_in, within_before}
 use Rattle.bits.specs.Bit.{bit}
 use Rattle.bits.proofs.Bits.{bit_zero, bit_of_and, bit_ones, bit_beyond}
 use Rattle.bits.proofs.Ones.{lz_highest, bit_drop_lowest, tz_below}
 use Rattle.range_bitset.specs.Inner.{Spans}
-use Rattle.range_bitset.specs.Levels.{start_of, population_by, size_of, FirstFrom, LastBefore}
+use Rattle.range_bitset.specs.Levels.{FirstFrom, LastBefore}
 use Rattle.range_bitset.proofs.SearchReturns.{lowest_masked, none_masked, and_clear}
 
 -- ---- `first_from` and `last_before`
@@ -94,33 +94,3 @@ module _ (x : ℕ) (ne : x ≢ 0) (f : x < 2 ^ 64) where
 -- a mask without a bit that x has
 pub less_bit : (x y i : ℕ) → bit x i ≡ true → bit (bit_and x y) i ≡ false → bit_and x y < x
 less_bit x y i t z = lt_of_le-ne (and_le_l x y) (λ e. true≢false (sym t ∙ ap (λ (w : ℕ). bit w i) (sym e) ∙ z))
-
--- ---- `size_of`
-
-pub word_number : (each x : ℕ) → each ≡ 64 → ones x ≡ population_by each x
-word_number each x e = rw (eq-eqb each 64 e) refl
-
-pub block_number : (each x : ℕ) → each ≢ 64 → x ≡ population_by each x
-block_number each x e = rw (ne_eqb each 64 e) refl
-
-population_fits : (each x : ℕ) → x < 2 ^ 64 → population_by each x < 2 ^ 64
-population_fits each x f = by (eqb each 64)
-  where
-    by : (b : Bool) → cond b (ones x) x < 2 ^ 64
-    by true = omega (arith, ones-le 64 x f)
-    by false = f
-
-pub size_true : (each end x : ℕ) (l : List ℕ) (i : ℕ) (v : Bool) → v ≡ true → x ≡ population_by each (get_or l i 0) → x ≡ size_of each end v l i
-unfolding size_of
-size_true each end x l i true e q = q
-size_true each end x l i false e q = absurd (false≢true e)
-
-pub size_false : (each end x r s : ℕ) (l : List ℕ) (i : ℕ) (v : Bool) → v ≡ false → x ≡ population_by each (get_or l i 0) → get_or l i 0 < 2 ^ 64 → r < 2 ^ 64
-    → s ≡ start_of each end (i + 1) → (r + x) % 2 ^ 64 ≡ s - i * each → r ≡ size_of each end v l i
-unfolding size_of
-size_false each end x r s l i true e q f g k h = absurd (true≢false e)
-size_false each end x r s l i false e q f g k h =
-    let n : i + 1 ≡ suc i = omega arith in
-    let b = population_fits each (get_or l i 0) f in
-    let d : start_of each end (i + 1) ≡ start_of each end (suc i) = ap (start_of each end) n in
-    omega arith

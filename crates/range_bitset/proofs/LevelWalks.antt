@@ -1,36 +1,38 @@
 -- The walks over the parts of a level, up and down: where a walk stands, and what each of its steps and ends means for the set. On sound
 -- memory alone; `k` is the ordinal sought. Assumes nothing.
-use Rattle.range_bitset.proofs.Kit.{◌≡◌, refl, sym, ap, ◌∙◌, true, false, true≢false, false≢true, ℕ, suc, zero-le, ◌+◌, ◌*◌, ◌-◌, ◌^◌, ◌≤◌, ◌<◌, zero-mul, mul-le-mul_right, dec_lt, arith}
+use Rattle.range_bitset.proofs.Kit.{◌≡◌, refl, sym, ap, ◌∙◌, true, false, true≢false, ℕ, suc, zero-le, ◌+◌, ◌*◌, ◌-◌, ◌^◌, ◌≤◌, ◌<◌, zero-mul, mul-le-mul_right, dec_lt, arith}
 use Rattle.positions.specs.Positions.{Positions, count}
 use Rattle.positions.specs.Walks.{Lacks, Nth}
 use Rattle.positions.proofs.Counts.{count_split, count_none, count_all, count_empty}
 use Rattle.bits.specs.Bit.{bit}
 use Rattle.bits.proofs.Bits.{bit_zero, bit_beyond}
 use Rattle.bits.proofs.Ones.{Highest}
-use Rattle.range_bitset.specs.Levels.{landed, start_of, Level, Lands}
+use Rattle.range_bitset.specs.Levels.{start_of, size_of, LevelOf, Lands}
+use Rattle.range_bitset.specs.declared.level.Level.{Level}
+use Rattle.range_bitset.specs.declared.level.Landing.TheVariants.{At, Within}
 use Rattle.range_bitset.proofs.SearchReturns.{Lowest, lacks_parts}
 
-pub starts_up : (each end i j : ℕ) → i ≤ j → start_of each end i ≤ start_of each end j
-starts_up each end i j h = omega (arith, mul-le-mul_right each h)
+pub starts_up : {each : ℕ} (l : Level each) (i j : ℕ) → i ≤ j → start_of l i ≤ start_of l j
+starts_up {each} l i j h = omega (arith, mul-le-mul_right each h)
 
-module _ {t : Positions} {each end some others : ℕ} {size : ℕ → ℕ} (level : Level t each end some others size) (k : ℕ) where
+module _ {t : Positions} {each : ℕ} {l : Level each} (level : LevelOf t l) (k : ℕ) where
   abbrev start : ℕ → ℕ
-  start i = start_of each end i
+  start i = start_of l i
 
   up : (i j : ℕ) → i ≤ j → start i ≤ start j
-  up i j h = starts_up each end i j h
+  up i j h = starts_up l i j h
 
   first : start 0 ≡ 0
   first = omega (arith, zero-mul each)
 
-  past : start 64 ≡ end
+  past : start 64 ≡ l.end
   past = omega (arith, level.reach)
 
   -- parts without a position of the set
-  none_between : (i j : ℕ) → i ≤ j → ((m : ℕ) → i ≤ m → m < j → bit some m ≡ false) → count t (start i) (start j) ≡ 0
+  none_between : (i j : ℕ) → i ≤ j → ((m : ℕ) → i ≤ m → m < j → bit l.some m ≡ false) → count t (start i) (start j) ≡ 0
   none_between i j h e = count_none t (start i) (start j) (lacks_parts t true start i j h (λ m p q. level.none m (e m p q)))
 
-  module _ (i j : ℕ) (h : i ≤ j) (e : (m : ℕ) → i ≤ m → m < j → bit others m ≡ false) where
+  module _ (i j : ℕ) (h : i ≤ j) (e : (m : ℕ) → i ≤ m → m < j → bit l.others m ≡ false) where
     all_between : Lacks t false (start i) (start j)
     all_between = lacks_parts t false start i j h (λ m p q. level.whole m (e m p q))
 
@@ -38,7 +40,7 @@ module _ {t : Positions} {each end some others : ℕ} {size : ℕ → ℕ} (leve
     whole_count = count_all t (start i) (start j) all_between
 
     -- n positions after the start of a stretch of whole parts
-    pub in_whole : (n : ℕ) → i * each ≤ end → count t 0 (start i) + n ≡ k → n < start j - start i → Nth t 0 k (i * each + n)
+    pub in_whole : (n : ℕ) → i * each ≤ l.end → count t 0 (start i) + n ≡ k → n < start j - start i → Nth t 0 k (i * each + n)
     in_whole n l b u =
         let here : count t (start i) (i * each + n) ≡ i * each + n - start i = count_all t (start i) (i * each + n) (λ p q w. all_between p q (omega arith)) in
         record {
@@ -54,10 +56,10 @@ module _ {t : Positions} {each end some others : ℕ} {size : ℕ → ℕ} (leve
     pub at : ℕ
     pub most : at ≤ 64
     pub gone : (i : ℕ) → i < at → bit left i ≡ false
-    pub kept : (i : ℕ) → at ≤ i → bit left i ≡ bit some i
+    pub kept : (i : ℕ) → at ≤ i → bit left i ≡ bit l.some i
     pub before : count t 0 (start at) + n ≡ k
 
-  pub up_begins : Up some k
+  pub up_begins : Up l.some k
   up_begins =
       record {
         at = 0;
@@ -75,7 +77,7 @@ module _ {t : Positions} {each end some others : ℕ} {size : ℕ → ℕ} (leve
         by (yes l) = absurd (true≢false (sym low.set ∙ u.gone i l))
         by (no l) = omega arith
 
-    pub up_some : bit some i ≡ true
+    pub up_some : bit l.some i ≡ true
     up_some = sym (u.kept i up_at) ∙ low.set
 
     pub up_before : count t 0 (start i) + n ≡ k
@@ -101,22 +103,20 @@ module _ {t : Positions} {each end some others : ℕ} {size : ℕ → ℕ} (leve
         }
 
     -- it is in part i, or in the whole parts i..j
-    pub up_part : (c : ℕ) → bit others i ≡ true → c ≡ size i → Lands t each end k (landed i n c false)
-    up_part c o e =
-        record { before = up_before; sized = λ z. e ∙ level.sized i up_some o; found = λ z. absurd (false≢true z) }
+    pub up_part : (c : ℕ) → bit l.others i ≡ true → c ≡ size_of l i → Lands t l k (Within i n c)
+    up_part c o e = (up_before, e ∙ level.sized i up_some o)
 
-    pub up_whole : (j c : ℕ) → i ≤ j → ((m : ℕ) → i ≤ m → m < j → bit others m ≡ false) → i * each ≤ end → n < start j - start i
-        → Lands t each end k (landed i n c true)
-    up_whole j c h e l w =
-        record { before = up_before; sized = λ z. absurd (true≢false z); found = λ z. in_whole i j h e n l up_before w }
+    pub up_whole : (j : ℕ) → i ≤ j → ((m : ℕ) → i ≤ m → m < j → bit l.others m ≡ false) → i * each ≤ l.end → n < start j - start i
+        → Lands t l k (At i n)
+    up_whole j h e l w = in_whole i j h e n l up_before w
 
-  pub up_ends : (n : ℕ) → Up 0 n → k < count t 0 end → ⊥
+  pub up_ends : (n : ℕ) → Up 0 n → k < count t 0 l.end → ⊥
   up_ends n u h =
       let a = u.most in
       omega (
         arith,
         u.before,
-        count_split t 0 (start u.at) end zero-le (omega arith),
+        count_split t 0 (start u.at) l.end zero-le (omega arith),
         none_between u.at 64 a (λ m p q. sym (u.kept m p) ∙ bit_zero m),
         ap (count t (start u.at)) past,
       )
@@ -129,17 +129,17 @@ module _ {t : Positions} {each end some others : ℕ} {size : ℕ → ℕ} (leve
       pub at : ℕ
       pub most : at ≤ 64
       pub gone : (i : ℕ) → at ≤ i → bit left i ≡ false
-      pub kept : (i : ℕ) → i < at → bit left i ≡ bit some i
-      pub after : count t (start at) end + n ≡ b
+      pub kept : (i : ℕ) → i < at → bit left i ≡ bit l.some i
+      pub after : count t (start at) l.end + n ≡ b
 
-    pub down_begins : some < 2 ^ 64 → Down some b
+    pub down_begins : l.some < 2 ^ 64 → Down l.some b
     down_begins f =
         record {
           at = 64;
           most = omega arith;
-          gone = λ i l. bit_beyond 64 some i f l;
+          gone = λ i z. bit_beyond 64 l.some i f z;
           kept = λ i l. refl;
-          after = omega (arith, count_empty t (start 64) end (omega (arith, past)));
+          after = omega (arith, count_empty t (start 64) l.end (omega (arith, past)));
         }
 
     module _ {left n : ℕ} (d : Down left n) (i : ℕ) (high : Highest 64 left i) where
@@ -150,16 +150,16 @@ module _ {t : Positions} {each end some others : ℕ} {size : ℕ → ℕ} (leve
           by (yes l) = l
           by (no l) = absurd (true≢false (sym high.set ∙ d.gone i (omega arith)))
 
-      pub down_some : bit some i ≡ true
+      pub down_some : bit l.some i ≡ true
       down_some = sym (d.kept i down_at) ∙ high.set
 
-      pub down_after : count t (start (suc i)) end + n ≡ b
+      pub down_after : count t (start (suc i)) l.end + n ≡ b
       down_after =
           let a = down_at in
           omega (
             arith,
             d.after,
-            count_split t (start (suc i)) (start d.at) end (up (suc i) d.at a) (omega arith),
+            count_split t (start (suc i)) (start d.at) l.end (up (suc i) d.at a) (omega arith),
             none_between (suc i) d.at a (λ m p q. sym (d.kept m q) ∙ high.clear m p),
           )
 
@@ -174,42 +174,38 @@ module _ {t : Positions} {each end some others : ℕ} {size : ℕ → ℕ} (leve
               most = omega arith;
               gone = g;
               kept = λ m p. q m p ∙ d.kept m (omega arith);
-              after = omega (arith, down_after, e, z, count_split t (start j) (start (suc i)) end (up j (suc i) (omega arith)) (omega arith));
+              after = omega (arith, down_after, e, z, count_split t (start j) (start (suc i)) l.end (up j (suc i) (omega arith)) (omega arith));
             }
 
         -- or it is there
-        down_before : k + suc b ≡ count t 0 end → n < c → count t 0 (start j) + (c - 1 - n) ≡ k
-        down_before w l =
+        down_before : k + suc b ≡ count t 0 l.end → n < c → count t 0 (start j) + (c - 1 - n) ≡ k
+        down_before w u =
             omega (
               arith,
               down_after,
               e,
-              count_split t 0 (start j) end zero-le (omega arith),
-              count_split t (start j) (start (suc i)) end (up j (suc i) (omega arith)) (omega arith),
+              count_split t 0 (start j) l.end zero-le (omega arith),
+              count_split t (start j) (start (suc i)) l.end (up j (suc i) (omega arith)) (omega arith),
             )
 
-        pub down_whole : k + suc b ≡ count t 0 end → ((m : ℕ) → j ≤ m → m < suc i → bit others m ≡ false) → j * each ≤ end → n < c
-            → Lands t each end k (landed j (c - 1 - n) c true)
+        pub down_whole : k + suc b ≡ count t 0 l.end → ((m : ℕ) → j ≤ m → m < suc i → bit l.others m ≡ false) → j * each ≤ l.end → n < c
+            → Lands t l k (At j (c - 1 - n))
         down_whole w o l u =
             let a = whole_count j (suc i) (omega arith) o in
-            record {
-              before = down_before w u;
-              sized = λ z. absurd (true≢false z);
-              found = λ z. in_whole j (suc i) (omega arith) o (c - 1 - n) l (down_before w u) (omega arith);
-            }
+            in_whole j (suc i) (omega arith) o (c - 1 - n) l (down_before w u) (omega arith)
 
-      pub down_part : (c : ℕ) → k + suc b ≡ count t 0 end → bit others i ≡ true → c ≡ size i → n < c
-          → Lands t each end k (landed i (c - 1 - n) c false)
+      pub down_part : (c : ℕ) → k + suc b ≡ count t 0 l.end → bit l.others i ≡ true → c ≡ size_of l i → n < c
+          → Lands t l k (Within i (c - 1 - n) c)
       down_part c w o e u =
           let z = e ∙ level.sized i down_some o in
-          record { before = down_before i c (omega arith) z w u; sized = λ y. z; found = λ y. absurd (false≢true y) }
+          (down_before i c (omega arith) z w u, z)
 
-    pub down_ends : (n : ℕ) → Down 0 n → k + suc b ≡ count t 0 end → ⊥
+    pub down_ends : (n : ℕ) → Down 0 n → k + suc b ≡ count t 0 l.end → ⊥
     down_ends n d w =
         omega (
           arith,
           d.after,
-          count_split t 0 (start d.at) end zero-le (omega arith),
+          count_split t 0 (start d.at) l.end zero-le (omega arith),
           none_between 0 d.at zero-le (λ m p q. sym (d.kept m q) ∙ bit_zero m),
           ap (λ (x : ℕ). count t x (start d.at)) first,
         )

@@ -8,26 +8,29 @@ use Rattle.range_bitset.specs.Inner.{Spans}
 use Rattle.range_bitset.specs.Shown.{Shows, TopsEnsures, mixed_of, block_of, BlockEnsures}
 use Rattle.range_bitset.specs.declared.RangeBitset.{RangeBitset}
 use Rattle.range_bitset.specs.declared.MixedBlock.{MixedBlock}
-use Rattle.range_bitset.specs.declared.ShownBlock.{ShownBlock}
-use Rattle.range_bitset.specs.declared.ShownTops.TheVariants as tops
+use Rattle.range_bitset.specs.declared.Block.{Block}
+use Rattle.std.proofs.Common.{Ok, Err}
+use Rattle.answers.specs.Refusals.{number_of}
+use Rattle.answers.specs.declared.Refusal.{Refusal}
+use Rattle.answers.proofs.Numbers.{number_some}
 use Rattle.range_bitset.specs.declared.State.{State}
 use Rattle.range_bitset.proofs.SpanMasks.{spans_low}
 
 -- ---- refused, or shown
 
-pub hides : {A : Type 0} (k : ℕ) (refusal : ℕ → A) (x : A) (k' : ℕ) → k' ≡ k → (k' ≡ 0 → ⊥) → Shows k refusal x (refusal k')
-hides k refusal x k' e z = record { declines = λ n. ap refusal e; shows = λ p. absurd (z (e ∙ p)) }
+pub hides : {A : Type 0} (k : ℕ) (x : A) (n : Refusal) → number_of n ≡ k → Shows k x (Err n)
+hides k x n e = record { refuses = e; shows = λ p. absurd (number_some n (e ∙ p)) }
 
-pub shown : {A : Type 0} (k : ℕ) (refusal : ℕ → A) (x r : A) → k ≡ 0 → r ≡ x → Shows k refusal x r
-shown k refusal x r e p = record { declines = λ n. absurd (n e); shows = λ q. p }
+pub shown : {A : Type 0} (k : ℕ) (x r : A) → k ≡ 0 → r ≡ x → Shows k x (Ok r)
+shown k x r e p = record { refuses = sym e; shows = λ q. ap (λ (y : _). Ok y) p }
 
 -- ---- the top masks
 
 pub tops_shown : (h : RangeBitset) (st : List ℕ) (i k b m : ℕ) → storage_refusal h (length st) ≡ 0 → i ≡ address h.words top_nonzero → k ≡ address h.words top_full
-    → b ≡ blocks h.words → m < 2 ^ 64 → Spans m 0 b → TopsEnsures h st (tops.Tops (record { nonzero = get_or st i 0; full = get_or st k 0; valid = m }))
+    → b ≡ blocks h.words → m < 2 ^ 64 → Spans m 0 b → TopsEnsures h st (Ok (record { nonzero = get_or st i 0; full = get_or st k 0; valid = m }))
 tops_shown h st i k b m e p q r f s =
     let v : m ≡ 2 ^ blocks h.words - 1 = spans_low b m f s ∙ ap (λ (n : ℕ). 2 ^ n - 1) r in
-    shown _ _ _ _ e (rw (p, q, v) refl)
+    shown _ _ _ e (rw (p, q, v) refl)
 
 -- ---- a block
 
@@ -36,6 +39,6 @@ pub mixed_shown : (W : ℕ) (st : List ℕ) (b i k m p : ℕ) → i ≡ address 
 mixed_shown W st b i k m p ei ek em ep = rw (ei, ek, em, ep) refl
 
 -- the block in a state, with the numbers shown of it
-pub block_shown : (h : RangeBitset) (st : List ℕ) (i : ℕ) (x : State) (r : ShownBlock) → point_refusal h (length st) i ≡ 0 → state_of h.words st (i / 4096) ≡ x
-    → r ≡ block_of h.words st (i / 4096) x → BlockEnsures h st i r
-block_shown h st i x r e p q = shown _ _ _ _ e (q ∙ ap (block_of h.words st (i / 4096)) (sym p))
+pub block_shown : (h : RangeBitset) (st : List ℕ) (i : ℕ) (x : State) (r : Block) → point_refusal h (length st) i ≡ 0 → state_of h.words st (i / 4096) ≡ x
+    → r ≡ block_of h.words st (i / 4096) x → BlockEnsures h st i (Ok r)
+block_shown h st i x r e p q = shown _ _ _ e (q ∙ ap (block_of h.words st (i / 4096)) (sym p))

@@ -1,9 +1,10 @@
 -- What a run of stores leaves at every slot, and what two runs leave: one law each. Two slots of one address are the same
 -- slot, by one computation over `kind` and `index`. Assumes nothing.
-use Rattle.range_bitset.proofs.Kit.{◌≡◌, refl, ap, sym, ◌∙◌, subst, Bool, true, false, ◌&&◌, cond, true≢false, List, [], ◌∷◌, ℕ, zero, suc, ◌+◌, ◌*◌, ◌≤◌, ◌<◌, le_refl, le_trans, le_of_eq, lt_of_lt_of_le, le_ind, arith, eqb, ltb, lt_of_le-ne, length, get_or, drop, length-set, get_or-set_same, get_or-set_other, drop-set-lt, eq-eqb, eqb-true, eqb-false, ltb-true, ltb-false}
-use Rattle.bits.specs.Bit.{bit}
+use Rattle.range_bitset.proofs.Kit.{◌≡◌, refl, ap, ap₂, sym, ◌∙◌, subst, Bool, true, false, ◌&&◌, cond, true≢false, List, [], ◌∷◌, ℕ, zero, suc, ◌+◌, ◌*◌, ◌≤◌, ◌<◌, le_refl, le_trans, le_of_eq, lt_of_lt_of_le, le_ind, arith, eqb, ltb, lt_of_le-ne, length, get_or, drop, length-set, get_or-set_same, get_or-set_other, drop-set-lt, eq-eqb, eqb-true, eqb-false, ltb-true, ltb-false}
+use Rattle.std.specs.Prelude.{slice_index, slice_set}
+use Rattle.bits.specs.Bit.{bit, put}
 use Rattle.range_bitset.specs.Layout.{blocks, needed, SamePast, Slot, word, nonzero, full, population, top_nonzero, top_full, address, at}
-use Rattle.range_bitset.specs.Inner.{In, kind, index, same, Store, stores, find, AllIn}
+use Rattle.range_bitset.specs.Inner.{In, kind, index, same, Store, stores, find, AllIn, write_masks}
 use Rattle.positions.proofs.Bools.{and_left, and_right}
 
 -- where the numbers of each kind begin
@@ -138,3 +139,9 @@ read_at_lem st p e = ap (λ (x : ℕ). get_or st x 0) (sym p) ∙ e
 -- the same word count needs the same numbers
 pub past_same : {W W' : ℕ} (st st' : List ℕ) → W' ≡ W → SamePast W st st' → SamePast W' st st'
 past_same st st' e k = subst (λ (w : ℕ). SamePast w st st') (sym e) k
+
+-- two slots written at their addresses
+pub masks_at : (W : ℕ) (st : List ℕ) (n f : Slot) (m : ℕ) (v : Bool) {i j : ℕ} {st' : List ℕ} → i ≡ address W n → j ≡ address W f
+    → st' ≡ slice_set (slice_set st i (put 64 (slice_index st i) m v)) j (put 64 (slice_index st j) m v) → st' ≡ stores W st (write_masks W st n f m v)
+masks_at W st n f m v e k h =
+    h ∙ ap₂ (λ (x y : ℕ). slice_set (slice_set st x (put 64 (slice_index st x) m v)) y (put 64 (slice_index st y) m v)) e k

@@ -1,12 +1,13 @@
 -- What the counting functions compute on any memory: the walks over a mask's bits, the population of a mixed block's words
 -- by its masks, and of whole blocks by the top masks. Assumes nothing.
-use Rattle.range_bitset.proofs.Kit.{◌≡◌, refl, sym, ap, ap₂, subst, ◌∙◌, ◌≢◌, Bool, true, false, not, ◌&&◌, cond, List, ℕ, ◌+◌, ◌*◌, ◌-◌, ◌/◌, ◌%◌, ◌^◌, ◌≤◌, ◌<◌, lt_of_lt_of_le, lt_of_le_of_lt, mul-zero, arith, bit_and, and_le_l, and_le_r, ones, ones-le, ones-ones, count_trailing_zeros, length, length-drop, get_or, take, drop, get_or-take, get_or-drop, length-take-le, pow_mono, not-true}
+use Rattle.range_bitset.proofs.Kit.{◌≡◌, refl, sym, ap, ap₂, subst, ◌∙◌, ◌≢◌, Bool, true, false, not, ◌&&◌, cond, List, ℕ, ◌+◌, ◌*◌, ◌-◌, ◌/◌, ◌%◌, ◌^◌, ◌≤◌, ◌<◌, lt_of_lt_of_le, lt_of_le_of_lt, mul-zero, arith, bit_and, and_le_l, and_le_r, ones, ones-le, ones-ones, count_trailing_zeros, length, length-drop, get_or, take, drop, get_or-take, get_or-drop, length-take-le, pow_mono, not-true, and-false, dec_lt}
+use Rattle.std.specs.Prelude.{slice_range}
 use Rattle.positions.specs.Positions.{sum_over, count_from}
 use Rattle.positions.proofs.Bools.{and_left, and_right, same₂, same₃}
 use Rattle.positions.proofs.Counts.{over_const}
-use Rattle.positions.proofs.Sums.{over_bound, over_diff, over_ext, over_terms}
+use Rattle.positions.proofs.Sums.{over_bound, over_diff, over_ext, over_le, over_terms}
 use Rattle.bits.specs.Bit.{bit}
-use Rattle.bits.proofs.Bits.{bit_of_and, bit_below}
+use Rattle.bits.proofs.Bits.{bit_of_and, bit_below, bit_beyond, bit_not}
 use Rattle.bits.proofs.Masks.{bit_without}
 use Rattle.bits.proofs.Ones.{tz_set}
 use Rattle.range_bitset.specs.Layout.{blocks, words_of, address, at, word, nonzero, full, population, top_nonzero, top_full}
@@ -14,7 +15,7 @@ use Rattle.range_bitset.specs.Read.{ALL, state_of, mixed_read, word_read, by_sta
 use Rattle.range_bitset.specs.Inner.{Room, mixed_count, words_count, kept_count, blocks_count}
 use Rattle.range_bitset.specs.declared.State.{State}
 use Rattle.range_bitset.specs.declared.State.TheVariants.{Empty, Mixed, Full}
-use Rattle.bits.proofs.Walks.{walk_const, walk_step}
+use Rattle.bits.proofs.Walks.{taken, walk_const}
 
 -- ---- the walks
 
@@ -42,17 +43,26 @@ stored_count l m = sum_over (bit m) (λ k. ones (get_or l k 0)) 0 64
 pub ones_most : (m : ℕ) (f : ℕ → ℕ) → ((k : ℕ) → f k < 2 ^ 64) → sum_over (bit m) (λ k. ones (f k)) 0 64 ≤ 4096
 ones_most m f h = over_bound (bit m) (λ k. ones (f k)) 64 0 64 (λ i p q. ones-le 64 (f i) (h i))
 
+-- of those words each has at most 64
+pub stored_most : (l : List ℕ) (m : ℕ) → m < 2 ^ 64 → ((k : ℕ) → get_or l k 0 < 2 ^ 64) → stored_count l m ≤ ones m * 64
+stored_most l m h known =
+    omega (
+      arith,
+      over_le (bit m) (λ k. ones (get_or l k 0)) (λ k. 64) 0 64 (λ i p q. ones-le 64 (get_or l i 0) (known i)),
+      walk_const 64 (λ k. 64) m 64 h (λ i q e. refl),
+    )
+
 -- the sum of the kept populations of those blocks that m has
 abbrev pub kept_sum : ℕ → List ℕ → ℕ → ℕ
 kept_sum W st m = sum_over (bit m) (λ b. at W st (population b)) 0 64
 
--- one block more in the sum: x as it is kept, the sum in 32 bits
-pub kept_step : (W : ℕ) (st : List ℕ) (r : Room W st) (m sum slot low new : ℕ) → m ≢ 0 → m < 2 ^ blocks W → slot ≡ address W (population (count_trailing_zeros 64 m))
-    → low ≡ get_or st slot 0 % 2 ^ 32 → new ≡ (sum + low) % 2 ^ 32
-    → (new + kept_sum W st (bit_and m (m - 1))) % 2 ^ 32 ≡ (sum + kept_sum W st m) % 2 ^ 32
-kept_step W st r m sum slot low new z h a l e =
-    let k : get_or st slot 0 ≡ at W st (population (count_trailing_zeros 64 m)) = ap (λ (x : ℕ). get_or st x 0) a in
-    omega (arith, k, l, e, walk_step 64 (λ b. at W st (population b)) m z (blocks_word W st r m h))
+-- one block more in the sum, in 32 bits
+pub kept_step : (W : ℕ) (st : List ℕ) (r : Room W st) (all sum : ℕ) {m b m' slot : ℕ} → (m ≢ 0) × (b ≡ count_trailing_zeros 64 m) × (m' ≡ bit_and m (m - 1))
+    → m < 2 ^ blocks W → slot ≡ address W (population b) → (sum + kept_sum W st m) % 2 ^ 32 ≡ all
+    → ((sum + get_or st slot 0 % 2 ^ 32) % 2 ^ 32 + kept_sum W st m') % 2 ^ 32 ≡ all
+kept_step W st r all sum {m = m} {b = b} {slot = slot} q h a e =
+    let k : get_or st slot 0 ≡ at W st (population b) = ap (λ (x : ℕ). get_or st x 0) a in
+    omega (arith, k, e, taken q (λ (c : ℕ). at W st (population c)) (blocks_word W st r m h))
 
 -- at most a word's bits
 pub ones_right : (x m : ℕ) → m < 2 ^ 64 → ones (bit_and x m) ≤ 64
@@ -104,15 +114,15 @@ mixed_row W st b j h =
     let e : (64 * b + j) % 64 ≡ j = omega arith in
     rw (d, e)
 
+cond_lt : (f n : Bool) (d : ℕ) → d < 2 ^ 64 → cond f ALL (cond n d 0) < 2 ^ 64
+cond_lt true n d h = omega arith
+cond_lt false true d h = h
+cond_lt false false d h = omega arith
+
 -- any word, where its block is mixed
 pub mixed_lt : (W : ℕ) (st : List ℕ) → ((k : ℕ) → get_or st k 0 < 2 ^ 64) → (k : ℕ) → mixed_read W st k < 2 ^ 64
 unfolding mixed_read
-mixed_lt W st known k = by (bit (at W st (full (k / 64))) (k % 64)) (bit (at W st (nonzero (k / 64))) (k % 64))
-  where
-    by : (f n : Bool) → cond f ALL (cond n (at W st (word k)) 0) < 2 ^ 64
-    by true n = omega arith
-    by false true = known k
-    by false false = omega arith
+mixed_lt W st known k = cond_lt (bit (at W st (full (k / 64))) (k % 64)) (bit (at W st (nonzero (k / 64))) (k % 64)) (at W st (word k)) (known k)
 
 -- word j of block b, by the block's state
 pub read_by : (W : ℕ) (st : List ℕ) (b : ℕ) (x : State) → state_of W st b ≡ x → (j : ℕ) → j < 64
@@ -142,25 +152,45 @@ part_at st from n k h =
 abbrev pub explicit_words : ℕ → ℕ → ℕ → ℕ
 explicit_words F N m = bit_and (bit_and N ((2 ^ 64 - 1) - bit_and F m)) m
 
--- what `stored_population` asks of the block's words
-pub explicit_fits : (st : List ℕ) (from n w F N m : ℕ) → from + n ≤ length st → n ≡ w → w ≤ 64 → m < 2 ^ w
-    → (length (take (from + n - from) (drop from st)) ≤ 64) × (explicit_words F N m < 2 ^ length (take (from + n - from) (drop from st)))
-explicit_fits st from n w F N m l e k h =
-    let p : length (take (from + n - from) (drop from st)) ≡ w = part_long st from n l ∙ e in
-    (omega arith, subst (λ (x : ℕ). explicit_words F N m < 2 ^ x) (sym p) (lt_of_le_of_lt (and_le_r (bit_and N ((2 ^ 64 - 1) - bit_and F m)) m) h))
+explicit_bit : (F N m i : ℕ) → m < 2 ^ 64 → bit (explicit_words F N m) i ≡ ((bit m i && not (bit F i)) && bit N i)
+explicit_bit F N m i h = bit_of_and (bit_and N rest) m i ∙ by (dec_lt i 64)
+  where
+    rest : ℕ
+    rest = (2 ^ 64 - 1) - bit_and F m
 
-explicit_bit : (F N m i : ℕ) → F < 2 ^ 64 → N < 2 ^ 64 → bit (explicit_words F N m) i ≡ ((bit m i && not (bit F i)) && bit N i)
-explicit_bit F N m i hf hn =
-    bit_of_and (bit_and N ((2 ^ 64 - 1) - bit_and F m)) m i
-    ∙ ap (λ (x : Bool). x && bit m i)
-    (bit_without 64 N (bit_and F m) i hn (lt_of_le_of_lt (and_le_l F m) hf) ∙ ap (λ (x : Bool). bit N i && not x) (bit_of_and F m i))
-    ∙ same₃ (λ w f n. (n && not (f && w)) && w) (λ w f n. (w && not f) && n) tt (bit m i) (bit F i) (bit N i)
+    by : Dec (i < 64) → (bit (bit_and N rest) i && bit m i) ≡ ((bit m i && not (bit F i)) && bit N i)
+    by (yes l) =
+        ap (λ (x : Bool). x && bit m i)
+        (bit_of_and N rest i
+        ∙ ap (λ (x : Bool). bit N i && x) (bit_not 64 (bit_and F m) i (lt_of_le_of_lt (and_le_r F m) h) l ∙ ap not (bit_of_and F m i)))
+        ∙ same₃ (λ w f n. (n && not (f && w)) && w) (λ w f n. (w && not f) && n) tt (bit m i) (bit F i) (bit N i)
+    by (no l) =
+        let e : bit m i ≡ false = bit_beyond 64 m i h (omega arith) in
+        rw e (and-false (bit (bit_and N rest) i))
 
-module _ (W : ℕ) (st : List ℕ) (b m : ℕ) (known : (k : ℕ) → get_or st k 0 < 2 ^ 64) where
-  pub mixed_most : mixed_count W st b m ≤ 4096
-  unfolding mixed_count
-  mixed_most = ones_most m (λ j. mixed_read W st (64 * b + j)) (λ j. mixed_lt W st known (64 * b + j))
+-- those words and the full ones together are at most 64
+pub mixed_most : (F N m : ℕ) → m < 2 ^ 64 → ones (bit_and F m) * 64 + ones (explicit_words F N m) * 64 ≤ 4096
+mixed_most F N m h =
+    let E = explicit_words F N m in
+    let e : E < 2 ^ 64 = lt_of_le_of_lt (and_le_r (bit_and N ((2 ^ 64 - 1) - bit_and F m)) m) h in
+    let sum =
+    marked_sum F N m (bit_and F m) E (lt_of_le_of_lt (and_le_r F m) h)
+    (λ i. bit_of_and F m i ∙ same₂ (λ x y. x && y) (λ x y. y && x) tt (bit F i) (bit m i)) (λ i. explicit_bit F N m i h)
+    64 (λ i. cond (bit F i) 64 (cond (bit N i) 64 0)) (λ i. 64) (λ i q. refl)
+    in
+    omega (
+      arith,
+      sum,
+      walk_const 64 (λ i. 64) E 64 e (λ i q u. refl),
+      over_bound (bit m) (λ i. cond (bit F i) 64 (cond (bit N i) 64 0)) 64 0 64 (λ i p q. cond_most (bit F i) (bit N i)),
+    )
+  where
+    cond_most : (f n : Bool) → cond f 64 (cond n 64 0) ≤ 64
+    cond_most true n = omega arith
+    cond_most false true = omega arith
+    cond_most false false = omega arith
 
+module _ (W : ℕ) (st : List ℕ) (b m : ℕ) where
   -- by the words marked full and those looked at
   pub mixed_marked : (F E : ℕ) → F < 2 ^ 64 → ((i : ℕ) → bit F i ≡ (bit m i && bit (at W st (full b)) i))
       → ((i : ℕ) → bit E i ≡ ((bit m i && not (bit (at W st (full b)) i)) && bit (at W st (nonzero b)) i))
@@ -170,25 +200,39 @@ module _ (W : ℕ) (st : List ℕ) (b m : ℕ) (known : (k : ℕ) → get_or st 
       marked_sum (at W st (full b)) (at W st (nonzero b)) m F E h bf be 64 (λ j. ones (mixed_read W st (64 * b + j))) (λ k. ones (get_or st (64 * b + k) 0))
       (λ j l. ap ones (mixed_row W st b j l) ∙ ones_cond (bit (at W st (full b)) j) (bit (at W st (nonzero b)) j) (at W st (word (64 * b + j))))
 
-  -- by the masks at the slots f and n, and the block's words
-  pub mixed_total : (f n w : ℕ) → f ≡ address W (full b) → n ≡ address W (nonzero b) → w ≡ words_of W b → m < 2 ^ words_of W b
-      → ones (bit_and (get_or st f 0) m) * 64 + stored_count (take (64 * b + w - 64 * b) (drop (64 * b) st)) (explicit_words (get_or st f 0) (get_or st n 0) m)
-      ≡ mixed_count W st b m
-  mixed_total f n w ef en ew h =
+-- block b by its data words l and a mask m of them
+module _ (W : ℕ) (st : List ℕ) (room : Room W st) (b m : ℕ) (there : b < blocks W) (h : m < 2 ^ words_of W b) (l : List ℕ)
+    (is : l ≡ slice_range st (64 * b) (64 * b + words_of W b)) where
+  data_long : length l ≡ words_of W b
+  data_long = ap length is ∙ part_long st (64 * b) (words_of W b) (omega (arith, room.long, there))
+
+  data_at : (j : ℕ) → j < words_of W b → get_or l j 0 ≡ get_or st (64 * b + j) 0
+  data_at j u = ap (λ (x : List ℕ). get_or x j 0) is ∙ part_at st (64 * b) (words_of W b) j u
+
+  -- what `stored_population` asks
+  pub explicit_fits : (F N : ℕ) → (length l ≤ 64) × (explicit_words F N m < 2 ^ length l)
+  explicit_fits F N =
+      (omega (arith, data_long), subst (λ (x : ℕ). explicit_words F N m < 2 ^ x) (sym data_long) (lt_of_le_of_lt (and_le_r (bit_and N ((2 ^ 64 - 1) - bit_and F m)) m) h))
+
+  -- by the masks at the slots f and n
+  pub mixed_total : (f n : ℕ) → f ≡ address W (full b) → n ≡ address W (nonzero b)
+      → ones (bit_and (get_or st f 0) m) * 64 + stored_count l (explicit_words (get_or st f 0) (get_or st n 0) m) ≡ mixed_count W st b m
+  mixed_total f n ef en =
       let F = get_or st f 0 in
       let N = get_or st n 0 in
       let E = explicit_words F N m in
-      let low : E < 2 ^ w = subst (λ (x : ℕ). E < 2 ^ x) (sym ew) (lt_of_le_of_lt (and_le_r (bit_and N ((2 ^ 64 - 1) - bit_and F m)) m) h) in
+      let wide : m < 2 ^ 64 = lt_of_lt_of_le h (pow_mono {j = 64} (omega arith)) in
+      let low : E < 2 ^ words_of W b = lt_of_le_of_lt (and_le_r (bit_and N ((2 ^ 64 - 1) - bit_and F m)) m) h in
       ap (λ (x : ℕ). ones (bit_and F m) * 64 + x)
-      (over_terms (bit E) (λ k. ones (get_or (take (64 * b + w - 64 * b) (drop (64 * b) st)) k 0)) (λ k. ones (get_or st (64 * b + k) 0)) 0 64
-      (λ k p q e. ap ones (part_at st (64 * b) w k (bit_below w E k low e))))
+      (over_terms (bit E) (λ k. ones (get_or l k 0)) (λ k. ones (get_or st (64 * b + k) 0)) 0 64
+      (λ k p q e. ap ones (data_at k (bit_below (words_of W b) E k low e))))
       ∙ sym
-      (mixed_marked (bit_and F m) E (lt_of_le_of_lt (and_le_l F m) (known f))
+      (mixed_marked W st b m (bit_and F m) E (lt_of_le_of_lt (and_le_r F m) wide)
       (λ i.
       bit_of_and F m i ∙ same₂ (λ x y. x && y) (λ x y. y && x) tt (bit F i) (bit m i)
       ∙ ap (λ (x : ℕ). bit m i && bit (get_or st x 0) i) ef)
       (λ i.
-      explicit_bit F N m i (known f) (known n)
+      explicit_bit F N m i wide
       ∙ ap₂ (λ (x y : ℕ). (bit m i && not (bit (get_or st x 0) i)) && bit (get_or st y 0) i) ef en))
 
 module _ (W : ℕ) (st : List ℕ) (b m : ℕ) where

@@ -7,10 +7,11 @@ use Rattle.positions.proofs.Counts.{count_swap, count_same, count_le}
 use Rattle.positions.proofs.Assigned.{assigned_before, assigned_behind, changed_apart}
 use Rattle.bits.specs.Bit.{bit, mask, put}
 use Rattle.bits.proofs.Words.{mask_ext, mask_none, mask_all, put_mask}
+use Rattle.std.specs.Int.{abs_diff}
 use Rattle.range_bitset.specs.Layout.{blocks, words_of, at, word, nonzero, full, population, top_nonzero, top_full, Slot, SamePast}
 use Rattle.range_bitset.specs.Read.{ALL}
 use Rattle.range_bitset.specs.Represents.{word_of, any_word, all_word, valid, nonzero_mask, full_mask, block_count, any_block, all_block, closed, only, masked, StoredOpen, Stored}
-use Rattle.range_bitset.specs.Inner.{Room, Spans, apart, moved, In, stores, find, AllIn, write_masks, write_tops, count_moved, Opens, Closes, Assigns}
+use Rattle.range_bitset.specs.Inner.{Room, Spans, moved, In, stores, find, AllIn, write_masks, count_moved, Opens, Closes, Assigns}
 use Rattle.range_bitset.proofs.Slots.{stores_at, leaves_at, leaves_kept, twice_at, twice_kept}
 use Rattle.range_bitset.proofs.SetWords.{words_some, block_most}
 use Rattle.range_bitset.proofs.OpenBlocks.{open_here}
@@ -65,7 +66,7 @@ module _ (W blk m a b : ℕ) (v : Bool) (l : blk < blocks W) (fit : m < 2 ^ word
     old_most = omega (arith, count_le s X Y)
 
     words_hold : (st₂ st₃ : List ℕ) (old new : ℕ) → StoredOpen W st s (only blk) → old ≡ count s X Y → new ≡ count (assigned s X Y v) X Y
-        → st₂ ≡ stores W st (write_masks W st blk m v) → st₃ ≡ stores W st₂ (count_moved W st₂ blk old new)
+        → st₂ ≡ stores W st (write_masks W st (nonzero blk) (full blk) m v) → st₃ ≡ stores W st₂ (count_moved W st₂ blk old new)
         → StoredOpen W st₃ (assigned s X Y v) (only blk)
     unfolding touches nonzero_mask full_mask
     words_hold st₂ st₃ old new r eo en e₂ e₃ =
@@ -74,7 +75,7 @@ module _ (W blk m a b : ℕ) (v : Bool) (l : blk < blocks W) (fit : m < 2 ^ word
         (now (full blk) l ∙ cond_same blk _ _ ∙ ap (λ (x : ℕ). put 64 x m v) (r.fulls blk l (open_here W s blk)) ∙ mask_put (λ x. eqb x ALL) refl refl)
         (now (population blk) l
         ∙ cond_same blk _ _
-        ∙ ap (λ (x : ℕ). moved x old new) (leaves_at W st room.long (write_masks W st blk m v) written e₂ (population blk) l ∙ r.counts blk l (open_here W s blk))
+        ∙ ap (λ (x : ℕ). moved x old new) (leaves_at W st room.long (write_masks W st (nonzero blk) (full blk) m v) written e₂ (population blk) l ∙ r.counts blk l (open_here W s blk))
         ∙ ap₂ (λ (x y : ℕ). moved (block_count W s blk) x y) eo en
         ∙ moves _ _ _ _ block_moved old_most (block_most W (assigned s X Y v) blk) (block_most W s blk))
         (λ j h d p f. now (word j) h ∙ stay j h d p f)
@@ -90,11 +91,11 @@ module _ (W blk m a b : ℕ) (v : Bool) (l : blk < blocks W) (fit : m < 2 ^ word
             go (before p w) = assigned_before s X Y v i p
             go (behind p w) = assigned_behind s X Y v i p
 
-        written : AllIn W (write_masks W st blk m v)
+        written : AllIn W (write_masks W st (nonzero blk) (full blk) m v)
         written = (l, (l, omega arith))
 
-        now : (t : Slot) → In W t → at W st₃ t ≡ find (count_moved W st₂ blk old new) t (find (write_masks W st blk m v) t (at W st t))
-        now t j = twice_at W st room.long (write_masks W st blk m v) (count_moved W st₂ blk old new) written (l, omega arith) e₂ e₃ t j
+        now : (t : Slot) → In W t → at W st₃ t ≡ find (count_moved W st₂ blk old new) t (find (write_masks W st (nonzero blk) (full blk) m v) t (at W st t))
+        now t j = twice_at W st room.long (write_masks W st (nonzero blk) (full blk) m v) (count_moved W st₂ blk old new) written (l, omega arith) e₂ e₃ t j
 
         others : (t : Slot) → In W t → touches blk t ≡ false → at W st₃ t ≡ at W st t
         others (word j) q e = now (word j) q
@@ -129,20 +130,20 @@ module _ (W blk m a b : ℕ) (v : Bool) (l : blk < blocks W) (fit : m < 2 ^ word
   pub words_assigned : (st st₁ st₂ st₃ st₄ : List ℕ) (old new n : ℕ) → Room W st₁
       → Opens W blk st st₁ → ((s : Positions) → StoredOpen W st₁ s (only blk) → old ≡ count s (64 * (64 * blk + a)) (64 * (64 * blk + b)))
       → new ≡ cond v (ones m * 64) 0
-      → st₂ ≡ stores W st₁ (write_masks W st₁ blk m v) → st₃ ≡ stores W st₂ (count_moved W st₂ blk old new)
-      → n ≡ apart old new → Closes W blk st₃ st₄
+      → st₂ ≡ stores W st₁ (write_masks W st₁ (nonzero blk) (full blk) m v) → st₃ ≡ stores W st₂ (count_moved W st₂ blk old new)
+      → n ≡ abs_diff old new → Closes W blk st₃ st₄
       → Assigns W (64 * (64 * blk + a)) (64 * (64 * blk + b)) v st st₄ n
   words_assigned st st₁ st₂ st₃ st₄ old new n room o eo en e₂ e₃ ed c =
       assigns_by W blk X Y v st st₁ st₃ st₄ n o kept c
       (λ s t. words_hold st₁ room s st₂ st₃ old new t (eo s t) (fresh s) e₂ e₃)
-      (λ s t. ed ∙ ap₂ apart (eo s t) (fresh s) ∙ changed_apart s X Y v X Y (omega arith) (omega arith))
+      (λ s t. ed ∙ ap₂ abs_diff (eo s t) (fresh s) ∙ changed_apart s X Y v X Y (omega arith) (omega arith))
     where
       fresh : (s : Positions) → new ≡ count (assigned s X Y v) X Y
       fresh s = en ∙ value_count m a b 64 v small sp h (omega arith) s X Y (omega arith)
 
       kept : SamePast W st₁ st₃
       kept =
-          twice_kept W st₁ room.long (write_masks W st₁ blk m v) (count_moved W st₂ blk old new) (l, (l, omega arith)) (l, omega arith) e₂ e₃
+          twice_kept W st₁ room.long (write_masks W st₁ (nonzero blk) (full blk) m v) (count_moved W st₂ blk old new) (l, (l, omega arith)) (l, omega arith) e₂ e₃
 
 -- ---- whole blocks: bits a..b of the mask are the blocks a..b, of 64 words each
 
@@ -214,7 +215,7 @@ module _ (W m a b : ℕ) (v : Bool) (fit : m < 2 ^ blocks W) (sp : Spans m a b) 
   few : blocks W ≤ 64
   few = let k = room.most in omega arith
 
-  blocks_hold : Stored W st s → Stored W (stores W st (write_tops W st m v)) s'
+  blocks_hold : Stored W st s → Stored W (stores W st (write_masks W st top_nonzero top_full m v)) s'
   unfolding nonzero_mask full_mask block_count
   blocks_hold r =
       record {
@@ -240,8 +241,8 @@ module _ (W m a b : ℕ) (v : Bool) (fit : m < 2 ^ blocks W) (sp : Spans m a b) 
             now (word k) p ∙ r.stored k p q.1 (ap (λ (x : ℕ). not (eqb x 0)) (sym w) ∙ x) (ap (λ (x : ℕ). eqb x ALL) (sym w) ∙ f) ∙ sym w;
       }
     where
-      now : (t : Slot) → In W t → at W (stores W st (write_tops W st m v)) t ≡ find (write_tops W st m v) t (at W st t)
-      now t i = stores_at W st room.long (write_tops W st m v) (omega arith) t i
+      now : (t : Slot) → In W t → at W (stores W st (write_masks W st top_nonzero top_full m v)) t ≡ find (write_masks W st top_nonzero top_full m v) t (at W st t)
+      now t i = stores_at W st room.long (write_masks W st top_nonzero top_full m v) (omega arith) t i
 
       miss : (c : ℕ) → bit m c ≡ false → (x y : ℕ) → cond (bit m c) x y ≡ y
       miss c p x y = ap (λ (t : Bool). cond t x y) p
@@ -259,14 +260,14 @@ module _ (W m a b : ℕ) (v : Bool) (fit : m < 2 ^ blocks W) (sp : Spans m a b) 
 -- the contract of `assign_blocks`, from those of the functions that it calls
 pub blocks_assigned : (W m a b : ℕ) (v : Bool) → m < 2 ^ blocks W → Spans m a b → a ≤ b → 64 * b ≤ W → (st st₂ : List ℕ) → Room W st → (old new n : ℕ)
     → ((s : Positions) → Stored W st s → old ≡ count s (4096 * a) (4096 * b)) → new ≡ cond v (ones m * 4096) 0
-    → st₂ ≡ stores W st (write_tops W st m v) → n ≡ apart old new
+    → st₂ ≡ stores W st (write_masks W st top_nonzero top_full m v) → n ≡ abs_diff old new
     → Assigns W (4096 * a) (4096 * b) v st st₂ n
 blocks_assigned W m a b v fit sp h u st st₂ room old new n eo en e ed =
     record {
-      storage_kept = leaves_kept W st room.long (write_tops W st m v) (omega arith) e;
+      storage_kept = leaves_kept W st room.long (write_masks W st top_nonzero top_full m v) (omega arith) e;
       holds = λ s r. subst (λ (x : List ℕ). Stored W x (assigned s (4096 * a) (4096 * b) v)) (sym e) (blocks_hold W m a b v fit sp h u st room s r);
       changed = λ s r.
-          ed ∙ ap₂ apart (eo s r) (fresh s) ∙ changed_apart s (4096 * a) (4096 * b) v (4096 * a) (4096 * b) (omega arith) (omega arith);
+          ed ∙ ap₂ abs_diff (eo s r) (fresh s) ∙ changed_apart s (4096 * a) (4096 * b) v (4096 * a) (4096 * b) (omega arith) (omega arith);
     }
   where
     fresh : (s : Positions) → new ≡ count (assigned s (4096 * a) (4096 * b) v) (4096 * a) (4096 * b)

@@ -1,31 +1,49 @@
--- What the entries answer: the reply of each answer enum; and the refusals, in 01's order.
+-- What the entries answer, and the reply of each answer; and the refusals, in 01's order.
 -- Assumes nothing.
-use Rattle.std.specs.Prelude.{ℕ, ◌/◌, ◌%◌, Bool, cond, ◌&&◌, ◌==◌, nat_le, nat_lt}
+use Rattle.std.specs.Prelude.{ℕ, ◌/◌, ◌%◌, Bool, cond, ◌&&◌, ◌==◌, nat_le, nat_lt, Option, Result}
 use Rattle.positions.specs.Positions.{one}
-use Rattle.positions.specs.Replies.{Reply, number, nothing, refusal}
+use Rattle.positions.specs.Replies.{Reply, number}
+use Rattle.answers.specs.Refusals.{of_result, of_position, answer_in}
+use Rattle.answers.specs.declared.Refusal.{Refusal}
+use Rattle.answers.specs.declared.Changed.{Changed}
 use Rattle.range_bitset.specs.Layout.{allowed, needed}
 use Rattle.range_bitset.specs.Represents.{capacity_of}
 use Rattle.range_bitset.specs.declared.RangeBitset.{RangeBitset}
-use Rattle.range_bitset.specs.declared.Counted.{Counted}
-use Rattle.range_bitset.specs.declared.Counted.TheVariants as counted
-use Rattle.range_bitset.specs.declared.Tested.{Tested}
-use Rattle.range_bitset.specs.declared.Tested.TheVariants as tested
-use Rattle.range_bitset.specs.declared.Found.{Found}
-use Rattle.range_bitset.specs.declared.Found.TheVariants as found
+
+-- a head, a count, a truth, or a position or none: or why the call is refused. Those that change the set give the head too
+abbrev pub Made : Type 0
+Made = Result RangeBitset Refusal
+
+abbrev pub Counted : Type 0
+Counted = Result ℕ Refusal
+
+abbrev pub Tested : Type 0
+Tested = Result Bool Refusal
+
+abbrev pub Found : Type 0
+Found = Result (Option ℕ) Refusal
+
+abbrev pub Assigned : Type 0
+Assigned = Result (Changed ℕ RangeBitset) Refusal
+
+abbrev pub Updated : Type 0
+Updated = Result (Changed Bool RangeBitset) Refusal
 
 -- a count; a truth, as 1 or 0; a position or none
 abbrev pub of_counted : Counted → Reply
-of_counted (counted.Count n) = number n
-of_counted (counted.Refused k) = refusal k
+of_counted r = of_result number r
 
 abbrev pub of_tested : Tested → Reply
-of_tested (tested.Is b) = number (one b)
-of_tested (tested.Refused k) = refusal k
+of_tested r = of_result (λ b. number (one b)) r
 
 abbrev pub of_found : Found → Reply
-of_found (found.At i) = number i
-of_found found.Nothing = nothing
-of_found (found.Refused k) = refusal k
+of_found r = of_result of_position r
+
+abbrev pub of_assigned : Assigned → Reply
+of_assigned r = of_counted (answer_in r)
+
+abbrev pub of_updated : Updated → Reply
+of_updated r = of_tested (answer_in r)
 
 -- ---- the refusals of 01's table, 0 where a call is accepted
 

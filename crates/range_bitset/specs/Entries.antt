@@ -1,18 +1,13 @@
 -- The set's promises: one definition for each entry. `st` is the storage at entry, `st'` at exit. Assumes nothing.
-use Rattle.std.specs.Prelude.{◌≡◌, ℕ, suc, ◌/◌, Bool, true, false, cond, not, ◌&&◌, ◌||◌, List, length, ◌≢◌, nat_lt}
+use Rattle.std.specs.Prelude.{◌≡◌, ℕ, suc, ◌/◌, Bool, true, false, cond, not, ◌&&◌, ◌||◌, List, length, ◌≢◌, nat_lt, Ok, Err}
 use Rattle.positions.specs.Positions.{Positions, none, assigned, count, changed_count, first, one, select}
 use Rattle.range_bitset.specs.Layout.{SamePast}
 use Rattle.range_bitset.specs.Represents.{Represents, capacity_of}
 use Rattle.positions.specs.Replies.{Reply, number, refusal, of_place, refused, Accepted}
-use Rattle.range_bitset.specs.Answers.{of_counted, of_tested, of_found, allowed_capacity, good_head, storage_refusal, range_refusal, point_refusal}
+use Rattle.answers.specs.Refusals.{head_after}
+use Rattle.answers.specs.declared.Refusal.TheVariants.{Size}
+use Rattle.range_bitset.specs.Answers.{Made, Counted, Tested, Found, Assigned, Updated, of_counted, of_tested, of_found, of_assigned, of_updated, allowed_capacity, good_head, storage_refusal, range_refusal, point_refusal}
 use Rattle.range_bitset.specs.declared.RangeBitset.{RangeBitset}
-use Rattle.range_bitset.specs.declared.Made.{Made}
-use Rattle.range_bitset.specs.declared.Made.TheVariants as made
-use Rattle.range_bitset.specs.declared.Counted.{Counted}
-use Rattle.range_bitset.specs.declared.Tested.{Tested}
-use Rattle.range_bitset.specs.declared.Found.{Found}
-use Rattle.range_bitset.specs.declared.Assigned.{Assigned}
-use Rattle.range_bitset.specs.declared.Updated.{Updated}
 
 -- ---- the shape of a query's promise and of a change's
 
@@ -46,7 +41,7 @@ pub record Changes (k : ℕ) (h : RangeBitset) (st : List ℕ) (f : Positions �
 -- refused 1, or the head of a fresh set
 unfoldable pub new_of : ℕ → Made
 new_of capacity =
-    cond (allowed_capacity capacity) (made.Head (record { words = capacity / 64; len = 0; allocated = false })) (made.Refused 1)
+    cond (allowed_capacity capacity) (Ok (record { words = capacity / 64; len = 0; allocated = false })) (Err Size)
 
 unfoldable pub of_head : RangeBitset → ℕ → Reply
 of_head h n = cond (good_head h) (number n) (refusal 2)
@@ -74,16 +69,16 @@ SelectEnsures h st n r = Answers (storage_refusal h (length st)) h st (λ s. of_
 abbrev pub AssignEnsures : RangeBitset → List ℕ → ℕ → ℕ → Bool → Assigned → List ℕ → Type 0
 AssignEnsures h st a e v r st' =
     Changes (range_refusal h (length st) e) h st (λ s. number (changed_count s a e v)) (λ s. assigned s a e v) (v && nat_lt a e) (not v)
-    (of_counted r.answer) r.head st'
+    (of_assigned r) (head_after h r) st'
 
 -- one position: a range of length 1
 abbrev pub SetEnsures : RangeBitset → List ℕ → ℕ → Bool → Updated → List ℕ → Type 0
 SetEnsures h st i v r st' =
     Changes (point_refusal h (length st) i) h st (λ s. number (changed_count s i (suc i) v)) (λ s. assigned s i (suc i) v) v (not v)
-    (of_tested r.answer) r.head st'
+    (of_updated r) (head_after h r) st'
 
 -- every position: the flag is kept
 abbrev pub ClearEnsures : RangeBitset → List ℕ → Assigned → List ℕ → Type 0
 ClearEnsures h st r st' =
     Changes (storage_refusal h (length st)) h st (λ s. number (count s 0 (capacity_of h))) (λ s. none) false true
-    (of_counted r.answer) r.head st'
+    (of_assigned r) (head_after h r) st'

@@ -22,10 +22,6 @@ pub record Room (W : ℕ) (st : List ℕ) : Type 0 where
 abbrev pub Spans : ℕ → ℕ → ℕ → Type 0
 Spans m a b = (i : ℕ) → bit m i ≡ within a b i
 
--- how far two numbers lie apart
-abbrev pub apart : ℕ → ℕ → ℕ
-apart a b = (a - b) + (b - a)
-
 -- p - old + new in a word: any memory is safe, so it wraps
 abbrev pub moved : ℕ → ℕ → ℕ → ℕ
 moved p old new = ((p + (2 ^ 64 - old)) % 2 ^ 64 + new) % 2 ^ 64
@@ -110,11 +106,9 @@ write_word W st k new =
 abbrev pub count_moved : ℕ → List ℕ → ℕ → ℕ → ℕ → List Store
 count_moved W st b old new = population b ≔ moved (at W st (population b)) old new ∷ []
 
-abbrev pub write_masks : ℕ → List ℕ → ℕ → ℕ → Bool → List Store
-write_masks W st b m v = full b ≔ put 64 (at W st (full b)) m v ∷ nonzero b ≔ put 64 (at W st (nonzero b)) m v ∷ []
-
-abbrev pub write_tops : ℕ → List ℕ → ℕ → Bool → List Store
-write_tops W st m v = top_full ≔ put 64 (at W st top_full) m v ∷ top_nonzero ≔ put 64 (at W st top_nonzero) m v ∷ []
+-- the bits m of two slots, both masks of a block or both top masks
+abbrev pub write_masks : ℕ → List ℕ → Slot → Slot → ℕ → Bool → List Store
+write_masks W st n f m v = f ≔ put 64 (at W st f) m v ∷ n ≔ put 64 (at W st n) m v ∷ []
 
 -- a storage begun
 abbrev pub beginning : List Store

@@ -6,34 +6,30 @@ use Rattle.positions.specs.Walks.{Lacks, having, Nth}
 use Rattle.bits.specs.Bit.{bit}
 use Rattle.range_bitset.specs.Represents.{Stored}
 use Rattle.range_bitset.specs.Inner.{block_start}
+use Rattle.range_bitset.specs.declared.level.Level.{Level}
 use Rattle.range_bitset.specs.declared.level.Landing.{Landing}
+use Rattle.range_bitset.specs.declared.level.Landing.TheVariants.{At, Within}
 
--- where part i of `each` positions starts, in a level of `end` positions: the last part may be short, and all after it are empty
-abbrev pub start_of : ℕ → ℕ → ℕ → ℕ
-start_of each end i = min (i * each) end
+-- where part i starts: the last part may be short, and all after it are empty
+abbrev pub start_of : {each : ℕ} → Level each → ℕ → ℕ
+start_of {each} l i = min (i * each) l.end
 
 -- the population that a part's number stands for: a word's number is its bits, a block's its population
 abbrev pub population_by : ℕ → ℕ → ℕ
 population_by each x = cond (each == 64) (count_ones x) x
 
--- how many positions of value v part i has by its number, in 64 bits
-unfoldable pub size_of : ℕ → ℕ → Bool → List ℕ → ℕ → ℕ
-size_of each end v l i =
-    cond v (population_by each (slice_index l i)) ((start_of each end (suc i) - i * each + (2 ^ 64 - population_by each (slice_index l i))) % 2 ^ 64)
+-- how many positions of the value part i has by its number, in 64 bits
+unfoldable pub size_of : {each : ℕ} → Level each → ℕ → ℕ
+size_of {each} l i =
+    let x = population_by each (slice_index l.sizes.now i) in
+    cond l.value x ((start_of l (suc i) - i * each + (2 ^ 64 - x)) % 2 ^ 64)
 
--- what the walks need of the numbers l, on any memory
-pub record LevelRoom (l : List ℕ) (each end some : ℕ) : Type 0 where
-  pub most : length l ≤ 64
-  pub unit : each ≤ 4096
-  pub fits : some < 2 ^ length l
-  pub starts : (i : ℕ) → i < length l → i * each ≤ end
-
--- the masks and sizes are those of the set t, the positions of a value, counted from the level's start
-pub record Level (t : Positions) (each end some others : ℕ) (size : ℕ → ℕ) : Type 0 where
-  pub none : (i : ℕ) → bit some i ≡ false → Lacks t true (start_of each end i) (start_of each end (suc i))
-  pub whole : (i : ℕ) → bit others i ≡ false → Lacks t false (start_of each end i) (start_of each end (suc i))
-  pub sized : (i : ℕ) → bit some i ≡ true → bit others i ≡ true → size i ≡ count t (start_of each end i) (start_of each end (suc i))
-  pub reach : end ≤ 64 * each
+-- the masks and sizes are those of the set t, the positions of the value, counted from the level's start
+pub record LevelOf (t : Positions) {each : ℕ} (l : Level each) : Type 0 where
+  pub none : (i : ℕ) → bit l.some i ≡ false → Lacks t true (start_of l i) (start_of l (suc i))
+  pub whole : (i : ℕ) → bit l.others i ≡ false → Lacks t false (start_of l i) (start_of l (suc i))
+  pub sized : (i : ℕ) → bit l.some i ≡ true → bit l.others i ≡ true → size_of l i ≡ count t (start_of l i) (start_of l (suc i))
+  pub reach : l.end ≤ 64 * each
 
 -- r is the first bit of m at or after a, or 64; one past the last bit of m before e, or 0
 pub record FirstFrom (m a r : ℕ) : Type 0 where
@@ -47,23 +43,21 @@ pub record LastBefore (m e r : ℕ) : Type 0 where
   pub none : (i : ℕ) → r ≤ i → i < e → bit m i ≡ false
   pub set : (i : ℕ) → r ≡ suc i → bit m i ≡ true
 
--- where a walk ended
-abbrev pub landed : ℕ → ℕ → ℕ → Bool → Landing
-landed part n size whole = record { part = part; n = n; size = size; whole = whole }
+-- where a walk ended, on any memory: at a position that the level has, or at its end; or in a part that there is, by its number
+abbrev pub Inside : {each : ℕ} → Level each → Landing → Type 0
+Inside {each} l (At part n) = part * each + n ≤ l.end
+Inside l (Within part n size) = (part < length l.sizes.now) × (n < size) × (size ≡ size_of l part)
 
--- the k-th position of t lies where the walk ended
-pub record Lands (t : Positions) (each end k : ℕ) (r : Landing) : Type 0 where
-  pub before : count t 0 (start_of each end r.part) + r.n ≡ k
-  pub sized : r.whole ≡ false → r.size ≡ count t (start_of each end r.part) (start_of each end (suc r.part))
-  pub found : r.whole ≡ true → Nth t 0 k (r.part * each + r.n)
+-- the k-th position of t lies there
+abbrev pub Lands : {each : ℕ} → Positions → Level each → ℕ → Landing → Type 0
+Lands {each} t l k (At part n) = Nth t 0 k (part * each + n)
+Lands t l k (Within part n size) = (count t 0 (start_of l part) + n ≡ k) × (size ≡ count t (start_of l part) (start_of l (suc part)))
 
 -- a walk for the position that `wanted` says: `wanted c k` where the k-th of c positions is meant
-pub record Seeks (l : List ℕ) (each end : ℕ) (v : Bool) (some others : ℕ) (wanted : ℕ → ℕ → Type 0) (r : Landing) : Type 0 where
-  -- on any memory: a part that there is, by its number; or a position that a word can tell
-  pub inside : r.whole ≡ false → (r.part < length l) × (r.n < r.size) × (r.size ≡ size_of each end v l r.part)
-  pub near : r.whole ≡ true → (r.part < 64) × (r.n ≤ 262144)
+pub record Seeks {each : ℕ} (l : Level each) (wanted : ℕ → ℕ → Type 0) (r : Landing) : Type 0 where
+  pub inside : Inside l r
   -- where the level is that of a set
-  pub lands : (t : Positions) (k : ℕ) → Level t each end some others (size_of each end v l) → wanted (count t 0 end) k → Lands t each end k r
+  pub lands : (t : Positions) (k : ℕ) → LevelOf t l → wanted (count t 0 l.end) k → Lands t l k r
 
 -- the one with n before it; with b after it; and with n before it, of so many in all
 abbrev pub NthOf : ℕ → ℕ → ℕ → Type 0

@@ -1,6 +1,8 @@
 -- The promises of the two entries for the audit: what they show of a storage, on any memory and whatever the head's flag. The audit's
 -- own promise speaks of none of it. Assumes nothing.
-use Rattle.std.specs.Prelude.{◌≡◌, ℕ, ◌-◌, ◌*◌, ◌/◌, ◌^◌, List, length, ◌≢◌}
+use Rattle.std.specs.Prelude.{◌≡◌, ℕ, ◌-◌, ◌*◌, ◌/◌, ◌^◌, List, length, Result, Ok}
+use Rattle.answers.specs.Refusals.{refused_by}
+use Rattle.answers.specs.declared.Refusal.{Refusal}
 use Rattle.range_bitset.specs.Layout.{blocks, words_of, at, nonzero, full, population, top_nonzero, top_full}
 use Rattle.range_bitset.specs.Read.{state_of}
 use Rattle.range_bitset.specs.Represents.{valid}
@@ -10,15 +12,13 @@ use Rattle.range_bitset.specs.declared.State.{State}
 use Rattle.range_bitset.specs.declared.State.TheVariants.{Empty, Mixed, Full}
 use Rattle.range_bitset.specs.declared.Tops.{Tops}
 use Rattle.range_bitset.specs.declared.MixedBlock.{MixedBlock}
-use Rattle.range_bitset.specs.declared.ShownTops.{ShownTops}
-use Rattle.range_bitset.specs.declared.ShownTops.TheVariants as tops
-use Rattle.range_bitset.specs.declared.ShownBlock.{ShownBlock}
-use Rattle.range_bitset.specs.declared.ShownBlock.TheVariants as block
+use Rattle.range_bitset.specs.declared.Block.{Block}
+use Rattle.range_bitset.specs.declared.Block.TheVariants as block
 
 -- `k` is the refusal that 01's table asks for, 0 for none: r is that refusal, or x
-pub record Shows {A : Type 0} (k : ℕ) (refusal : ℕ → A) (x r : A) : Type 0 where
-  pub declines : (k ≢ 0) → r ≡ refusal k
-  pub shows : k ≡ 0 → r ≡ x
+pub record Shows {A : Type 0} (k : ℕ) (x : A) (r : Result A Refusal) : Type 0 where
+  pub refuses : refused_by r ≡ k
+  pub shows : k ≡ 0 → r ≡ Ok x
 
 -- the top masks, and the mask of the blocks that there are
 abbrev pub tops_of : ℕ → List ℕ → Tops
@@ -35,18 +35,16 @@ mixed_of W st b =
     }
 
 -- block b in a state: of one that is all set, how many positions it has
-abbrev pub block_of : ℕ → List ℕ → ℕ → State → ShownBlock
+abbrev pub block_of : ℕ → List ℕ → ℕ → State → Block
 block_of W st b Empty = block.Empty
 block_of W st b Mixed = block.Mixed (mixed_of W st b)
 block_of W st b Full = block.Full (64 * words_of W b)
 
 -- ---- the entries
 
-abbrev pub TopsEnsures : RangeBitset → List ℕ → ShownTops → Type 0
-TopsEnsures h st r = Shows (storage_refusal h (length st)) tops.Refused (tops.Tops (tops_of h.words st)) r
+abbrev pub TopsEnsures : RangeBitset → List ℕ → Result Tops Refusal → Type 0
+TopsEnsures h st r = Shows (storage_refusal h (length st)) (tops_of h.words st) r
 
 -- the block of position i
-abbrev pub BlockEnsures : RangeBitset → List ℕ → ℕ → ShownBlock → Type 0
-BlockEnsures h st i r =
-    Shows (point_refusal h (length st) i) block.Refused
-    (block_of h.words st (i / 4096) (state_of h.words st (i / 4096))) r
+abbrev pub BlockEnsures : RangeBitset → List ℕ → ℕ → Result Block Refusal → Type 0
+BlockEnsures h st i r = Shows (point_refusal h (length st) i) (block_of h.words st (i / 4096) (state_of h.words st (i / 4096))) r

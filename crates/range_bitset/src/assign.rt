@@ -3,8 +3,8 @@ ghost use Rattle.std.specs.Prelude.{◌≡◌, ◌+◌, ◌-◌, ◌*◌, ◌%�
 ghost use Rattle.range_bitset.specs.Entries.{AssignEnsures, SetEnsures};
 ghost use Rattle.range_bitset.specs.Inner.{Room, Assigns};
 
-use crate::{Assigned, Counted, RangeBitset, Tested, Updated, rest, single, span};
-use std::num::{wrapping_add_u32, wrapping_sub_u32};
+use crate::{RangeBitset, rest, single, span};
+use answers::{Changed, Refusal};
 
 impl RangeBitset {
     // The population after `changed` positions were set or cleared.
@@ -12,40 +12,40 @@ impl RangeBitset {
         ensures { result ≡ (if value then (len + changed) % 2 ^ 32 else (len + (2 ^ 32 - changed)) % 2 ^ 32) }
     {
         if value {
-            wrapping_add_u32(len, changed)
+            len.wrapping_add(changed)
         } else {
-            wrapping_sub_u32(len, changed)
+            len.wrapping_sub(changed)
         }
     }
 
     // Set or clear every position in `start..end`; answers how many changed.
-    pub fn assign(self, storage: &mut [u64], start: usize, end: usize, value: bool) -> Assigned
+    pub fn assign(
+        self,
+        storage: &mut [u64],
+        start: usize,
+        end: usize,
+        value: bool,
+    ) -> Result<Changed<u32, Self>, Refusal>
         ensures { AssignEnsures self storage.old start end value result storage.new }
     {
-        let refused = Self::range_refusal(self, storage.len(), end);
-        if refused != 0 {
-            return Assigned {
-                answer: Counted::Refused(refused),
-                head: self,
-            };
-        }
+        self.check_range(storage.len(), end)?;
         if start >= end || (!value && self.len == 0) {
-            return Assigned {
-                answer: Counted::Count(0),
+            return Ok(Changed {
+                answer: 0,
                 head: self,
-            };
+            });
         }
         let words = self.words as usize;
         Self::ensure_storage(storage, words, self.allocated);
         let changed = Self::assign_range(storage, words, start, end, value);
-        Assigned {
-            answer: Counted::Count(changed),
+        Ok(Changed {
+            answer: changed,
             head: RangeBitset {
                 words: self.words,
                 len: Self::shifted(self.len, changed, value),
                 allocated: true,
             },
-        }
+        })
     }
 
     // The rest of the Rust's `assign`, from `first_word` on.
@@ -68,11 +68,11 @@ impl RangeBitset {
         let mut whole_to = last_word + 1;
         if end % 64 != 0 {
             let more = Self::assign_in_word(storage, words, last_word, span(0, end % 64), value);
-            changed = wrapping_add_u32(changed, more);
+            changed = changed.wrapping_add(more);
             whole_to -= 1;
         }
         let more = Self::assign_whole_words(storage, words, whole_from, whole_to, value);
-        wrapping_add_u32(changed, more)
+        changed.wrapping_add(more)
     }
 
     fn assign_whole_words(
@@ -103,44 +103,43 @@ impl RangeBitset {
         let mut blocks_to = last_block + 1;
         if to % 64 != 0 {
             let more = Self::assign_words(storage, words, last_block, span(0, to % 64), value);
-            changed = wrapping_add_u32(changed, more);
+            changed = changed.wrapping_add(more);
             blocks_to -= 1;
         }
         if blocks_from < blocks_to {
             let more = Self::assign_blocks(storage, words, span(blocks_from, blocks_to), value);
-            changed = wrapping_add_u32(changed, more);
+            changed = changed.wrapping_add(more);
         }
         changed
     }
 
     // Set or clear one position; answers whether it changed.
-    pub fn set(self, storage: &mut [u64], index: usize, value: bool) -> Updated
+    pub fn set(
+        self,
+        storage: &mut [u64],
+        index: usize,
+        value: bool,
+    ) -> Result<Changed<bool, Self>, Refusal>
         ensures { SetEnsures self storage.old index value result storage.new }
     {
-        let refused = Self::point_refusal(self, storage.len(), index);
-        if refused != 0 {
-            return Updated {
-                answer: Tested::Refused(refused),
-                head: self,
-            };
-        }
+        self.check_point(storage.len(), index)?;
         if !value && self.len == 0 {
-            return Updated {
-                answer: Tested::Is(false),
+            return Ok(Changed {
+                answer: false,
                 head: self,
-            };
+            });
         }
         let words = self.words as usize;
         Self::ensure_storage(storage, words, self.allocated);
         let bit = single(index % 64);
         let changed = Self::assign_in_word(storage, words, index / 64, bit, value);
-        Updated {
-            answer: Tested::Is(changed != 0),
+        Ok(Changed {
+            answer: changed != 0,
             head: RangeBitset {
                 words: self.words,
                 len: Self::shifted(self.len, changed, value),
                 allocated: true,
             },
-        }
+        })
     }
 }

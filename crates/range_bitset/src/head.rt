@@ -1,94 +1,90 @@
-// The head: a new set, its capacity and population, and the refusals that head, storage and numbers call for. Assumes nothing.
+// The head: a new set, its capacity and population, and the tests by which head, storage and numbers are refused. Assumes nothing.
 ghost use Rattle.std.specs.Prelude.{◌≡◌};
+ghost use Rattle.answers.specs.Refusals.{refused_by};
 ghost use Rattle.range_bitset.specs.Layout.{allowed};
-ghost use Rattle.range_bitset.specs.Answers.{good_head, storage_refusal, range_refusal, point_refusal};
+ghost use Rattle.range_bitset.specs.Answers.{head_refusal, storage_refusal, range_refusal, point_refusal};
 ghost use Rattle.range_bitset.specs.Entries.{new_of, CapacityEnsures, LenEnsures};
 
-use crate::{Counted, Made, RangeBitset};
+use crate::RangeBitset;
+use answers::Refusal;
 
 impl RangeBitset {
-    pub fn new(capacity: usize) -> Made
+    pub fn new(capacity: usize) -> Result<Self, Refusal>
         ensures { result ≡ new_of capacity }
     {
-        if capacity % 64 != 0 {
-            return Made::Refused(1);
-        }
         let words = capacity / 64;
-        if !Self::allowed(words) {
-            return Made::Refused(1);
+        if capacity % 64 != 0 || !Self::allowed(words) {
+            return Err(Refusal::Size);
         }
-        Made::Head(RangeBitset {
+        Ok(RangeBitset {
             words: words as u32,
             len: 0,
             allocated: false,
         })
     }
 
-    pub fn capacity(self) -> Counted
+    pub fn capacity(self) -> Result<u32, Refusal>
         ensures { CapacityEnsures self result }
     {
-        if !Self::good_head(self) {
-            return Counted::Refused(2);
-        }
-        Counted::Count(self.words * 64)
+        self.check_head()?;
+        Ok(self.words * 64)
     }
 
-    pub fn len(self) -> Counted
+    pub fn len(self) -> Result<u32, Refusal>
         ensures { LenEnsures self result }
     {
-        if !Self::good_head(self) {
-            return Counted::Refused(2);
-        }
-        Counted::Count(self.len)
+        self.check_head()?;
+        Ok(self.len)
     }
 
     // The word counts that there are: the one test for a power of two.
     fn allowed(words: usize) -> bool
         ensures { result ≡ allowed words }
     {
-        u64::count_ones(words as u64) == 1 && words <= 4096
+        words.is_power_of_two() && words <= 4096
     }
 
-    fn good_head(head: RangeBitset) -> bool
-        ensures { result ≡ good_head head }
+    // The test of a call on the head alone.
+    pub fn check_head(self) -> Result<(), Refusal>
+        ensures { refused_by result ≡ head_refusal self }
     {
-        let words = head.words as usize;
-        Self::allowed(words) && head.len as usize <= 64 * words
-    }
-
-    // 0, or the number by which a call on head and storage is refused.
-    pub fn refusal(head: RangeBitset, len: usize) -> u8
-        ensures { result ≡ storage_refusal head len }
-    {
-        if !Self::good_head(head) {
-            return 2;
+        let words = self.words as usize;
+        if Self::allowed(words) && self.len as usize <= 64 * words {
+            Ok(())
+        } else {
+            Err(Refusal::Head)
         }
-        let words = head.words as usize;
+    }
+
+    // The tests of a call on head and storage alone.
+    pub fn check_storage(self, len: usize) -> Result<(), Refusal>
+        ensures { refused_by result ≡ storage_refusal self len }
+    {
+        self.check_head()?;
+        let words = self.words as usize;
         if len < words + 3 * Self::blocks(words) + 2 {
-            return 3;
+            return Err(Refusal::Short);
         }
-        0
+        Ok(())
     }
 
-    pub(crate) fn range_refusal(head: RangeBitset, len: usize, end: usize) -> u8
-        ensures { result ≡ range_refusal head len end }
+    pub(crate) fn check_range(self, len: usize, end: usize) -> Result<(), Refusal>
+        ensures { refused_by result ≡ range_refusal self len end }
     {
-        let refused = Self::refusal(head, len);
-        if refused != 0 {
-            return refused;
+        self.check_storage(len)?;
+        if end > 64 * self.words as usize {
+            return Err(Refusal::Outside);
         }
-        let words = head.words as usize;
-        if end <= 64 * words { 0 } else { 4 }
+        Ok(())
     }
 
-    pub(crate) fn point_refusal(head: RangeBitset, len: usize, index: usize) -> u8
-        ensures { result ≡ point_refusal head len index }
+    pub(crate) fn check_point(self, len: usize, index: usize) -> Result<(), Refusal>
+        ensures { refused_by result ≡ point_refusal self len index }
     {
-        let refused = Self::refusal(head, len);
-        if refused != 0 {
-            return refused;
+        self.check_storage(len)?;
+        if index >= 64 * self.words as usize {
+            return Err(Refusal::Outside);
         }
-        let words = head.words as usize;
-        if index < 64 * words { 0 } else { 4 }
+        Ok(())
     }
 }

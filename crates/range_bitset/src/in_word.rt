@@ -4,13 +4,6 @@ ghost use Rattle.positions.specs.Walks.{Nth};
 ghost use Rattle.bits.specs.Bit.{bit};
 ghost use Rattle.range_bitset.specs.Inner.{Pairs, Narrows};
 
-// A place in a word: `n` of the bits that are sought lie from `at` on before the one that is meant.
-#[derive(Clone, Copy)]
-struct InWord {
-    at: usize,
-    n: u64,
-}
-
 // The sums of each two neighbouring fields of `width` bits; `low` has the lower of each two.
 fn paired(sums: u64, width: usize, low: u64) -> u64
     requires { (width < 64) × (low < 2 ^ 63) }
@@ -19,19 +12,28 @@ fn paired(sums: u64, width: usize, low: u64) -> u64
     (sums & low) + ((sums >> width) & low)
 }
 
-// The lower `width` bits at `found`, or those after them: whichever has the bit that is meant. `sums` has a field for each
-// `width` bits.
-fn narrowed(sums: u64, width: usize, found: InWord) -> InWord
-    requires { (width < 64) × (found.at < 64) }
-    ensures { Narrows sums width found.at found.n result.at result.n }
-{
-    let low = (sums >> found.at) & ((1u64 << width) - 1);
-    if found.n < low {
-        found
-    } else {
-        InWord {
-            at: found.at + width,
-            n: found.n - low,
+// A place in a word: `n` of the bits that are sought lie from `at` on before the one that is meant.
+#[derive(Clone, Copy)]
+struct InWord {
+    at: usize,
+    n: u64,
+}
+
+impl InWord {
+    // The lower `width` bits at `at`, or those after them: whichever has the bit that is meant. `sums` has a field for each `width`
+    // bits.
+    fn narrowed(self, sums: u64, width: usize) -> Self
+        requires { (width < 64) × (self.at < 64) }
+        ensures { Narrows sums width self.at self.n result.at result.n }
+    {
+        let low = (sums >> self.at) & ((1u64 << width) - 1);
+        if self.n < low {
+            self
+        } else {
+            InWord {
+                at: self.at + width,
+                n: self.n - low,
+            }
         }
     }
 }
@@ -46,10 +48,12 @@ pub(crate) fn nth_in_word(bits: u64, n: u64) -> usize
     let eights = paired(fours, 4, 0x0f0f_0f0f_0f0f_0f0f);
     let sixteens = paired(eights, 8, 0x00ff_00ff_00ff_00ff);
     let halves = paired(sixteens, 16, 0x0000_ffff_0000_ffff);
-    let found = narrowed(halves, 32, InWord { at: 0, n });
-    let found = narrowed(sixteens, 16, found);
-    let found = narrowed(eights, 8, found);
-    let found = narrowed(fours, 4, found);
-    let found = narrowed(twos, 2, found);
-    narrowed(bits, 1, found).at
+    InWord { at: 0, n }
+        .narrowed(halves, 32)
+        .narrowed(sixteens, 16)
+        .narrowed(eights, 8)
+        .narrowed(fours, 4)
+        .narrowed(twos, 2)
+        .narrowed(bits, 1)
+        .at
 }

@@ -4,77 +4,86 @@ ghost use Rattle.range_bitset.specs.Layout.{blocks, words_of, address, nonzero, 
 ghost use Rattle.range_bitset.specs.Represents.{valid};
 ghost use Rattle.range_bitset.specs.Inner.{Room, Begins};
 
-use crate::{ALL, RangeBitset};
+use crate::{ALL, RangeBitset, View};
 
 impl RangeBitset {
+    // Not by `div_ceil`, which is three instructions longer, at every slot.
     pub(crate) fn blocks(words: usize) -> usize
         requires { words ≤ 4096 }
         ensures { result ≡ blocks words }
     {
         (words + 63) / 64
     }
+}
+
+impl View<'_> {
+    pub(crate) fn blocks(self) -> usize
+        ensures { result ≡ blocks self.entry.words }
+    {
+        RangeBitset::blocks(self.words)
+    }
 
     // How many words `block` has.
-    pub(crate) fn words_per_block(words: usize, block: usize) -> usize
-        requires { (words ≤ 4096) × (block < blocks words) }
-        ensures { result ≡ words_of words block }
+    pub(crate) fn words_per_block(self, block: usize) -> usize
+        requires { block < blocks self.words }
+        ensures { result ≡ words_of self.entry.words block }
     {
-        let left = words - block * 64;
-        if left >= 64 { 64 } else { left }
+        (self.words - block * 64).min(64)
     }
 
     // The mask of the words of `block`.
-    pub(crate) fn valid_words(words: usize, block: usize) -> u64
-        requires { (words ≤ 4096) × (block < blocks words) }
-        ensures { result ≡ valid words block }
+    pub(crate) fn valid_words(self, block: usize) -> u64
+        requires { block < blocks self.words }
+        ensures { result ≡ valid self.entry.words block }
     {
-        let n = Self::words_per_block(words, block);
+        let n = self.words_per_block(block);
         if n >= 64 { ALL } else { (1u64 << n) - 1 }
     }
 
-    pub(crate) fn nonzero_slot(words: usize, block: usize) -> usize
-        requires { (words ≤ 4096) × (block < 64) }
-        ensures { result ≡ address words (nonzero block) }
+    pub(crate) fn nonzero_slot(self, block: usize) -> usize
+        requires { block < 64 }
+        ensures { result ≡ address self.entry.words (nonzero block) }
     {
-        words + block
+        self.words + block
     }
 
-    pub(crate) fn full_slot(words: usize, block: usize) -> usize
-        requires { (words ≤ 4096) × (block < 64) }
-        ensures { result ≡ address words (full block) }
+    pub(crate) fn full_slot(self, block: usize) -> usize
+        requires { block < 64 }
+        ensures { result ≡ address self.entry.words (full block) }
     {
-        words + Self::blocks(words) + block
+        self.words + self.blocks() + block
     }
 
-    pub(crate) fn population_slot(words: usize, block: usize) -> usize
-        requires { (words ≤ 4096) × (block < 64) }
-        ensures { result ≡ address words (population block) }
+    pub(crate) fn population_slot(self, block: usize) -> usize
+        requires { block < 64 }
+        ensures { result ≡ address self.entry.words (population block) }
     {
-        words + 2 * Self::blocks(words) + block
+        self.words + 2 * self.blocks() + block
     }
 
-    pub(crate) fn top_nonzero_slot(words: usize) -> usize
-        requires { words ≤ 4096 }
-        ensures { result ≡ address words top_nonzero }
+    pub(crate) fn top_nonzero_slot(self) -> usize
+        ensures { result ≡ address self.entry.words top_nonzero }
     {
-        words + 3 * Self::blocks(words)
+        self.words + 3 * self.blocks()
     }
 
-    pub(crate) fn top_full_slot(words: usize) -> usize
-        requires { words ≤ 4096 }
-        ensures { result ≡ address words top_full }
+    pub(crate) fn top_full_slot(self) -> usize
+        ensures { result ≡ address self.entry.words top_full }
     {
-        Self::top_nonzero_slot(words) + 1
+        self.top_nonzero_slot() + 1
     }
+}
 
+impl RangeBitset {
     // The first setting zeroes the top masks, so that no other number of the storage is read; so does clearing all.
     pub(crate) fn ensure_storage(storage: &mut [u64], words: usize, allocated: bool)
         requires { Room words storage.old }
         ensures { Begins words allocated storage.old storage.new }
     {
         if !allocated {
-            let nonzero = Self::top_nonzero_slot(words);
-            let full = Self::top_full_slot(words);
+            let view = View { storage, words };
+            let nonzero = view.top_nonzero_slot();
+            let full = view.top_full_slot();
             storage[nonzero] = 0;
             storage[full] = 0;
         }

@@ -1,70 +1,21 @@
 // A walk over the parts of a level: the blocks of a set, or the words of a block, alike. Not the Rust's: the n-th position of a set
 // is found with it. Assumes nothing.
 //
-// A part has `each` positions, the last may have fewer: the level ends at `end`. Every part has its number in `sizes`: a word its bits, a
-// block its population. Two masks say which parts have a position of the value sought (`some`) and which one of the other value
+// A part has `EACH` positions, the last may have fewer: the level ends at `end`. Every part has its number in `sizes`: a word its bits, a
+// block its population. Two masks say which parts have a position of `value` (`some`) and which one of the other value
 // (`others`). A stretch of parts that `others` lacks is passed, or answered, by its length alone, and its numbers are not
-// read; nor is the number of a part that `some` lacks. These come one by one and in no struct: so the two walks are compiled for blocks
-// and for words apart, with `each` and `value` known.
-ghost use Rattle.std.specs.Prelude.{◌≡◌, ◌+◌, ◌-◌, ◌*◌, ◌^◌, ◌<◌, ◌≤◌, length};
-ghost use Rattle.range_bitset.specs.Levels.{landed, start_of, size_of, FirstFrom, LastBefore, LevelRoom, Seeks, NthOf, BackOf, AmongOf};
+// read; nor is the number of a part that `some` lacks. `EACH` is a const parameter, so that either walk is compiled for blocks and for words
+// apart.
+ghost use Rattle.std.specs.Prelude.{◌≡◌, ◌+◌, ◌-◌, ◌*◌, ◌^◌, ◌<◌, ◌≤◌, ℕ, length};
 
 use crate::{above, rest, span};
-use std::num::wrapping_sub_usize;
 
-// Where a walk ended: in part `part`, whose `size` positions of the value have `n` before the one that is meant; or, if `whole`, `n`
-// positions after the start of that part, all of the value up to there.
+// Where a walk ended: `n` positions after the start of part `part`, all of the value up to there; or within part `part`, whose `size`
+// positions of the value have `n` before the one that is meant.
 #[derive(Clone, Copy)]
-pub(crate) struct Landing {
-    pub(crate) part: usize,
-    pub(crate) n: usize,
-    pub(crate) size: usize,
-    pub(crate) whole: bool,
-}
-
-fn landed(part: usize, n: usize, size: usize, whole: bool) -> Landing
-    ensures { result ≡ landed part n size whole }
-{
-    Landing {
-        part,
-        n,
-        size,
-        whole,
-    }
-}
-
-fn start_of(each: usize, end: usize, part: usize) -> usize
-    requires { (each ≤ 4096) × (part ≤ 64) }
-    ensures { result ≡ start_of each end part }
-{
-    let at = part * each;
-    if at < end { at } else { end }
-}
-
-// How many positions of `value` a part has, by its number. Any memory is safe, so it wraps.
-fn size_of(sizes: &[u64], each: usize, end: usize, value: bool, part: usize) -> usize
-    requires { (each ≤ 4096) × (length sizes.now ≤ 64) × (part < length sizes.now) × (part * each ≤ end) }
-    ensures { result ≡ size_of each end value sizes.now part }
-{
-    let number = sizes[part];
-    let set = if each == 64 {
-        u64::count_ones(number) as usize
-    } else {
-        number as usize
-    };
-    if value {
-        set
-    } else {
-        wrapping_sub_usize(start_of(each, end, part + 1) - part * each, set)
-    }
-}
-
-// The first part at or after `from` that `mask` has, or 64.
-fn first_from(mask: u64, from: usize) -> usize
-    requires { from < 64 }
-    ensures { FirstFrom mask from result }
-{
-    u64::trailing_zeros(mask & rest(from)) as usize
+pub(crate) enum Landing {
+    At { part: usize, n: usize },
+    Within { part: usize, n: usize, size: usize },
 }
 
 // The bits below `to`.
@@ -75,127 +26,146 @@ fn low(to: usize) -> u64
     (1u64 << to) - 1
 }
 
-// One past the last part up to and with `from` that `mask` has, or 0.
-fn last_before(mask: u64, from: usize) -> usize
-    requires { from < 64 }
-    ensures { LastBefore mask (from + 1) result }
-{
-    64 - u64::leading_zeros(mask & span(0, from + 1)) as usize
+// The parts of a level, for the positions of `value`.
+#[derive(Clone, Copy)]
+pub(crate) struct Level<'a, const EACH: usize> {
+    pub(crate) sizes: &'a [u64],
+    pub(crate) end: usize,
+    pub(crate) value: bool,
+    pub(crate) some: u64,
+    pub(crate) others: u64,
+    ghost most: { length sizes.now ≤ 64 },
+    ghost unit: { EACH ≤ 4096 },
+    ghost some_fits: { some < 2 ^ length sizes.now },
+    ghost others_fit: { others < 2 ^ length sizes.now },
+    ghost starts: { (i : ℕ) → i < length sizes.now → i * EACH ≤ end },
 }
 
-// From the first part up: the position that has `n` of the value before it.
-fn seek_up(
-    sizes: &[u64],
-    each: usize,
-    end: usize,
-    value: bool,
-    some: u64,
-    others: u64,
-    n: usize,
-) -> Landing
-    requires { LevelRoom sizes.now each end some }
-    ensures { Seeks sizes.now each end value some others (NthOf n) result }
-{
-    let mut left = some;
-    let mut n = n;
-    while left != 0 {
-        let part = u64::trailing_zeros(left) as usize;
-        let to = first_from(others, part);
-        if part < to {
-            let size = start_of(each, end, to) - part * each;
-            if n < size {
-                return landed(part, n, size, true);
-            }
-            n -= size;
-            left &= above(to - 1);
+impl<const EACH: usize> Level<'_, EACH> {
+    ghost use Rattle.range_bitset.specs.Levels.{start_of, population_by, size_of, FirstFrom, LastBefore, Seeks, NthOf, BackOf, AmongOf};
+
+    // The start of part `part`: all after the last start at the end.
+    fn start_of(self, part: usize) -> usize
+        requires { part ≤ 64 }
+        ensures { result ≡ start_of self.entry part }
+    {
+        self.end.min(part * EACH)
+    }
+
+    // The population that a part's number stands for.
+    fn population(number: u64) -> usize
+        ensures { result ≡ population_by EACH number }
+    {
+        if EACH == 64 {
+            number.count_ones() as usize
         } else {
-            let size = size_of(sizes, each, end, value, part);
-            if n < size {
-                return landed(part, n, size, false);
-            }
-            n -= size;
-            left &= left - 1;
+            number as usize
         }
     }
-    landed(0, 0, 0, true)
-}
 
-// From the last part down: the position that has `back` of the value after it.
-fn seek_down(
-    sizes: &[u64],
-    each: usize,
-    end: usize,
-    value: bool,
-    some: u64,
-    others: u64,
-    back: usize,
-) -> Landing
-    requires { LevelRoom sizes.now each end some }
-    ensures { Seeks sizes.now each end value some others (BackOf back) result }
-{
-    let mut left = some;
-    let mut back = back;
-    while left != 0 {
-        let last = 63 - u64::leading_zeros(left) as usize;
-        let from = last_before(others, last);
-        if from <= last {
-            let size = start_of(each, end, last + 1) - from * each;
-            if back < size {
-                return landed(from, size - 1 - back, size, true);
-            }
-            back -= size;
-            left &= low(from);
+    // How many positions of the value a part has, by its number. Any memory is safe, so it wraps.
+    fn size_of(self, part: usize) -> usize
+        requires { part < length self.sizes.now }
+        ensures { result ≡ size_of self.entry part }
+    {
+        let set = Self::population(self.sizes[part]);
+        if self.value {
+            set
         } else {
-            let size = size_of(sizes, each, end, value, last);
-            if back < size {
-                return landed(last, size - 1 - back, size, false);
-            }
-            back -= size;
-            left &= low(last);
+            (self.start_of(part + 1) - part * EACH).wrapping_sub(set)
         }
     }
-    landed(0, 0, 0, true)
-}
 
-// In the blocks of a set the position that has `n` of the value before it, of `total`: from the nearer end, but up where no two neighbours
-// have both values. A walk has few steps then, and which end is nearer would be one more branch that nothing foresees.
-pub(crate) fn seek_blocks(
-    sizes: &[u64],
-    end: usize,
-    value: bool,
-    some: u64,
-    others: u64,
-    total: usize,
-    n: usize,
-) -> Landing
-    requires { LevelRoom sizes.now 4096 end some × (n < total) }
-    ensures { Seeks sizes.now 4096 end value some others (AmongOf total n) result }
-{
-    let mixed = some & others;
-    if mixed & (mixed >> 1) == 0 || n < total / 2 {
-        seek_up(sizes, 4096, end, value, some, others, n)
-    } else {
-        seek_down(sizes, 4096, end, value, some, others, total - 1 - n)
+    // The first part at or after `from` that has the other value, or 64.
+    fn first_from(self, from: usize) -> usize
+        requires { from < 64 }
+        ensures { FirstFrom self.entry.others from result }
+    {
+        (self.others & rest(from)).trailing_zeros() as usize
     }
-}
 
-// The same in the words of a block.
-pub(crate) fn seek_words(
-    sizes: &[u64],
-    end: usize,
-    value: bool,
-    some: u64,
-    others: u64,
-    total: usize,
-    n: usize,
-) -> Landing
-    requires { LevelRoom sizes.now 64 end some × (n < total) }
-    ensures { Seeks sizes.now 64 end value some others (AmongOf total n) result }
-{
-    let mixed = some & others;
-    if mixed & (mixed >> 1) == 0 || n < total / 2 {
-        seek_up(sizes, 64, end, value, some, others, n)
-    } else {
-        seek_down(sizes, 64, end, value, some, others, total - 1 - n)
+    // One past the last part up to and with `from` that has the other value, or 0.
+    fn last_before(self, from: usize) -> usize
+        requires { from < 64 }
+        ensures { LastBefore self.entry.others (from + 1) result }
+    {
+        64 - (self.others & span(0, from + 1)).leading_zeros() as usize
+    }
+
+    // From the first part up: the position that has `n` of the value before it.
+    fn seek_up(self, n: usize) -> Landing
+        ensures { Seeks self.entry (NthOf n) result }
+    {
+        let mut left = self.some;
+        let mut n = n;
+        while left != 0 {
+            let part = left.trailing_zeros() as usize;
+            let to = self.first_from(part);
+            if part < to {
+                let size = self.start_of(to) - part * EACH;
+                if n < size {
+                    return Landing::At { part, n };
+                }
+                n -= size;
+                left &= above(to - 1);
+            } else {
+                let size = self.size_of(part);
+                if n < size {
+                    return Landing::Within { part, n, size };
+                }
+                n -= size;
+                left &= left - 1;
+            }
+        }
+        Landing::At { part: 0, n: 0 }
+    }
+
+    // From the last part down: the position that has `back` of the value after it.
+    fn seek_down(self, back: usize) -> Landing
+        ensures { Seeks self.entry (BackOf back) result }
+    {
+        let mut left = self.some;
+        let mut back = back;
+        while left != 0 {
+            let last = 63 - left.leading_zeros() as usize;
+            let from = self.last_before(last);
+            if from <= last {
+                let size = self.start_of(last + 1) - from * EACH;
+                if back < size {
+                    return Landing::At {
+                        part: from,
+                        n: size - 1 - back,
+                    };
+                }
+                back -= size;
+                left &= low(from);
+            } else {
+                let size = self.size_of(last);
+                if back < size {
+                    return Landing::Within {
+                        part: last,
+                        n: size - 1 - back,
+                        size,
+                    };
+                }
+                back -= size;
+                left &= low(last);
+            }
+        }
+        Landing::At { part: 0, n: 0 }
+    }
+
+    // The position that has `n` of the value before it, of `total`: from the nearer end, but up where no two neighbours have both values. A
+    // walk has few steps then, and which end is nearer would be one more branch that nothing foresees.
+    pub(crate) fn seek(self, total: usize, n: usize) -> Landing
+        requires { n < total }
+        ensures { Seeks self.entry (AmongOf total n) result }
+    {
+        let mixed = self.some & self.others;
+        if mixed & (mixed >> 1) == 0 || n < total / 2 {
+            self.seek_up(n)
+        } else {
+            self.seek_down(total - 1 - n)
+        }
     }
 }

@@ -19,9 +19,7 @@
 
 ghost use Rattle.std.specs.Prelude.{◌≡◌, ◌+◌, ◌^◌, ◌<◌, ◌≤◌};
 ghost use Rattle.bits.specs.Bit.{bit, put};
-ghost use Rattle.range_bitset.specs.Inner.{Spans, apart, moved};
-
-use std::num::{wrapping_add_u64, wrapping_sub_u64};
+ghost use Rattle.range_bitset.specs.Inner.{Room, Spans, moved};
 
 mod assign;
 mod clear;
@@ -85,20 +83,15 @@ fn combined(old: u64, mask: u64, value: bool) -> u64
     if value { old | mask } else { old & !mask }
 }
 
-fn abs_diff(a: u32, b: u32) -> u32
-    ensures { result ≡ apart a b }
-{
-    if a <= b { b - a } else { a - b }
-}
-
 // `p - old + new`, wrapping, so that any memory is safe.
 fn moved(p: u64, old: u32, new: u32) -> u64
     ensures { result ≡ moved p old new }
 {
-    wrapping_add_u64(wrapping_sub_u64(p, old as u64), new as u64)
+    p.wrapping_sub(old as u64).wrapping_add(new as u64)
 }
 
-#[derive(Clone, Copy)]
+// What is known of a block from the top masks alone.
+#[derive(Clone, Copy, Debug, PartialEq, Eq)]
 pub enum State {
     Empty,
     Mixed,
@@ -106,56 +99,26 @@ pub enum State {
 }
 
 // A bitset over `0..capacity` positions: its head. The storage holds anything before `allocated`; specs/Layout has its order.
-#[derive(Clone, Copy)]
+// The default has no word, and every call refuses it.
+#[derive(Clone, Copy, Debug, Default, PartialEq, Eq)]
 pub struct RangeBitset {
     pub words: u32,
     pub len: u32,
     pub allocated: bool,
 }
 
-// What the entries answer. `Refused` has the number of the specification's table.
+// The storage lent for a set of `words` data words: it has room for them and for all that is kept beside them.
 #[derive(Clone, Copy)]
-pub enum Made {
-    Head(RangeBitset),
-    Refused(u8),
-}
-
-#[derive(Clone, Copy)]
-pub enum Counted {
-    Count(u32),
-    Refused(u8),
-}
-
-#[derive(Clone, Copy)]
-pub enum Tested {
-    Is(bool),
-    Refused(u8),
-}
-
-#[derive(Clone, Copy)]
-pub enum Found {
-    At(usize),
-    Nothing,
-    Refused(u8),
-}
-
-// An answer and the head as it is afterwards: the old one where the call is refused.
-#[derive(Clone, Copy)]
-pub struct Assigned {
-    pub answer: Counted,
-    pub head: RangeBitset,
-}
-
-#[derive(Clone, Copy)]
-pub struct Updated {
-    pub answer: Tested,
-    pub head: RangeBitset,
+pub(crate) struct View<'a> {
+    storage: &'a [u64],
+    words: usize,
+    ghost room: { Room words storage.now },
 }
 
 // ---- what the audit is shown
 
 // The blocks that hold any set bit, those that are entirely set, and those that there are.
-#[derive(Clone, Copy)]
+#[derive(Clone, Copy, Debug, PartialEq, Eq)]
 pub struct Tops {
     pub nonzero: u64,
     pub full: u64,
@@ -163,7 +126,7 @@ pub struct Tops {
 }
 
 // The same of the words of a `Mixed` block, and its kept population.
-#[derive(Clone, Copy)]
+#[derive(Clone, Copy, Debug, PartialEq, Eq)]
 pub struct MixedBlock {
     pub nonzero: u64,
     pub full: u64,
@@ -171,17 +134,10 @@ pub struct MixedBlock {
     pub population: u64,
 }
 
-#[derive(Clone, Copy)]
-pub enum ShownTops {
-    Tops(Tops),
-    Refused(u8),
-}
-
 // Of a block that is all clear nothing is shown, and of one that is all set only its size: nothing below the top masks is read of it.
-#[derive(Clone, Copy)]
-pub enum ShownBlock {
+#[derive(Clone, Copy, Debug, PartialEq, Eq)]
+pub enum Block {
     Empty,
     Mixed(MixedBlock),
     Full(u32),
-    Refused(u8),
 }

@@ -1,9 +1,10 @@
 // A block opened and closed around a change of one of its words. Assumes nothing.
 ghost use Rattle.std.specs.Prelude.{◌≡◌, ℕ, ◌+◌, ◌*◌, ◌<◌, ◌≤◌};
+ghost use Rattle.std.specs.Int.{abs_diff};
 ghost use Rattle.range_bitset.specs.Layout.{blocks, population};
-ghost use Rattle.range_bitset.specs.Inner.{Room, Spans, apart, stores, open_with, write_word, count_moved, Opens, Closes, Assigns};
+ghost use Rattle.range_bitset.specs.Inner.{Room, Spans, stores, open_with, write_word, count_moved, Opens, Closes, Assigns};
 
-use crate::{ALL, RangeBitset, State, abs_diff, combined, moved, single};
+use crate::{ALL, RangeBitset, State, View, combined, moved, single};
 
 impl RangeBitset {
     // Write the masks and the population of `block`, and mark it mixed.
@@ -12,11 +13,12 @@ impl RangeBitset {
         ensures { storage.new ≡ stores words storage.old (open_with words storage.old block masks population) }
     {
         let bit = single(block);
-        let nonzero = Self::nonzero_slot(words, block);
-        let full = Self::full_slot(words, block);
-        let population_slot = Self::population_slot(words, block);
-        let top_nonzero = Self::top_nonzero_slot(words);
-        let top_full = Self::top_full_slot(words);
+        let view = View { storage, words };
+        let nonzero = view.nonzero_slot(block);
+        let full = view.full_slot(block);
+        let population_slot = view.population_slot(block);
+        let top_nonzero = view.top_nonzero_slot();
+        let top_full = view.top_full_slot();
         storage[nonzero] = masks;
         storage[full] = masks;
         storage[population_slot] = population;
@@ -29,11 +31,12 @@ impl RangeBitset {
         requires { Room words storage.old × (block < blocks words) }
         ensures { Opens words block storage.old storage.new }
     {
-        match Self::block_state(storage, words, block) {
+        let view = View { storage, words };
+        match view.block_state(block) {
             State::Mixed => {}
             State::Full => {
-                let masks = Self::valid_words(words, block);
-                let n = Self::words_per_block(words, block);
+                let masks = view.valid_words(block);
+                let n = view.words_per_block(block);
                 Self::open_with(storage, words, block, masks, 64 * n as u64);
             }
             State::Empty => {
@@ -48,11 +51,12 @@ impl RangeBitset {
         ensures { Closes words block storage.old storage.new }
     {
         let bit = single(block);
-        let top_nonzero = Self::top_nonzero_slot(words);
-        let top_full = Self::top_full_slot(words);
-        if storage[Self::nonzero_slot(words, block)] == 0 {
+        let view = View { storage, words };
+        let top_nonzero = view.top_nonzero_slot();
+        let top_full = view.top_full_slot();
+        if storage[view.nonzero_slot(block)] == 0 {
             storage[top_nonzero] &= !bit;
-        } else if storage[Self::full_slot(words, block)] == Self::valid_words(words, block) {
+        } else if storage[view.full_slot(block)] == view.valid_words(block) {
             storage[top_full] |= bit;
         }
     }
@@ -66,11 +70,11 @@ impl RangeBitset {
         new: u32,
     ) -> u32
         requires { Room words storage.old × (block < blocks words) }
-        ensures { (storage.new ≡ stores words storage.old (count_moved words storage.old block old new)) × (result ≡ apart old new) }
+        ensures { (storage.new ≡ stores words storage.old (count_moved words storage.old block old new)) × (result ≡ abs_diff old new) }
     {
-        let slot = Self::population_slot(words, block);
+        let slot = View { storage, words }.population_slot(block);
         storage[slot] = moved(storage[slot], old, new);
-        abs_diff(old, new)
+        old.abs_diff(new)
     }
 
     // Store data word `word`, and its two bits in the masks of its block.
@@ -80,8 +84,9 @@ impl RangeBitset {
     {
         let block = word / 64;
         let bit = single(word % 64);
-        let nonzero = Self::nonzero_slot(words, block);
-        let full = Self::full_slot(words, block);
+        let view = View { storage, words };
+        let nonzero = view.nonzero_slot(block);
+        let full = view.full_slot(block);
         let new_nonzero = combined(storage[nonzero], bit, new != 0);
         let new_full = combined(storage[full], bit, new == ALL);
         storage[word] = new;
@@ -102,15 +107,15 @@ impl RangeBitset {
     {
         let block = word / 64;
         Self::open_block(storage, words, block);
-        let old = Self::mixed_word(storage, words, word);
+        let old = View { storage, words }.mixed_word(word);
         let new = combined(old, mask, value);
         Self::write_word(storage, words, word, new);
         let changed = Self::apply_population(
             storage,
             words,
             block,
-            u64::count_ones(old),
-            u64::count_ones(new),
+            old.count_ones(),
+            new.count_ones(),
         );
         Self::close_block(storage, words, block);
         changed

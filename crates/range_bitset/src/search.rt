@@ -4,145 +4,153 @@ ghost use Rattle.positions.specs.Walks.{below};
 ghost use Rattle.range_bitset.specs.Layout.{blocks, at};
 ghost use Rattle.range_bitset.specs.Read.{ALL, word_read};
 ghost use Rattle.positions.specs.Replies.{of_place};
-ghost use Rattle.range_bitset.specs.Answers.{of_found};
+ghost use Rattle.answers.specs.Refusals.{of_position};
 ghost use Rattle.range_bitset.specs.Entries.{NextEnsures};
 ghost use Rattle.range_bitset.specs.Inner.{Room, CandidateWords, CandidateBlocks, NextInWord, NextAfter, BitsFrom};
 
-use crate::{Found, RangeBitset, State, above, rest, span};
+use crate::{RangeBitset, State, View, above, rest, span};
+use answers::Refusal;
 
-impl RangeBitset {
+impl View<'_> {
     // Words of `block` holding at least one position equal to `value`.
-    pub(crate) fn candidate_words(storage: &[u64], words: usize, block: usize, value: bool) -> u64
-        requires { Room words storage.now × (block < blocks words) }
-        ensures { CandidateWords words block value storage.now result }
+    pub(crate) fn candidate_words(self, block: usize, value: bool) -> u64
+        requires { block < blocks self.words }
+        ensures { CandidateWords self.entry.words block value self.entry.storage.now result }
     {
-        let valid = Self::valid_words(words, block);
-        match Self::block_state(storage, words, block) {
+        let valid = self.valid_words(block);
+        match self.block_state(block) {
             State::Empty => if value { 0 } else { valid },
             State::Full => if value { valid } else { 0 },
             State::Mixed => {
                 if value {
-                    valid & storage[Self::nonzero_slot(words, block)]
+                    valid & self.storage[self.nonzero_slot(block)]
                 } else {
-                    valid & !storage[Self::full_slot(words, block)]
+                    valid & !self.storage[self.full_slot(block)]
                 }
             }
         }
     }
 
     // Blocks holding at least one position equal to `value`.
-    pub(crate) fn candidate_blocks(storage: &[u64], words: usize, value: bool) -> u64
-        requires { Room words storage.now }
-        ensures { CandidateBlocks words value storage.now result }
+    pub(crate) fn candidate_blocks(self, value: bool) -> u64
+        ensures { CandidateBlocks self.entry.words value self.entry.storage.now result }
     {
-        let valid = span(0, Self::blocks(words));
+        let valid = span(0, self.blocks());
         if value {
-            valid & storage[Self::top_nonzero_slot(words)]
+            valid & self.storage[self.top_nonzero_slot()]
         } else {
-            valid & !storage[Self::top_full_slot(words)]
+            valid & !self.storage[self.top_full_slot()]
         }
     }
 
-    pub(crate) fn word_bits(storage: &[u64], words: usize, word: usize, value: bool) -> u64
-        requires { Room words storage.now × (word < words) }
-        ensures { result ≡ (if value then word_read words storage.now word else ALL - word_read words storage.now word) }
+    pub(crate) fn word_bits(self, word: usize, value: bool) -> u64
+        requires { word < self.words }
+        ensures { result ≡ (if value then word_read self.entry.words self.entry.storage.now word else ALL - word_read self.entry.words self.entry.storage.now word) }
     {
-        let bits = Self::word(storage, words, word);
+        let bits = self.word(word);
         if value { bits } else { !bits }
     }
 
     // First position of data word `word` equal to `value`, or the next word's first.
-    fn first_in_word(storage: &[u64], words: usize, word: usize, value: bool) -> usize
-        requires { Room words storage.now × (word < words) }
-        ensures { NextInWord words word value storage.now result }
+    fn first_in_word(self, word: usize, value: bool) -> usize
+        requires { word < self.words }
+        ensures { NextInWord self.entry.words word value self.entry.storage.now result }
     {
-        let bits = Self::word_bits(storage, words, word, value);
-        word * 64 + u64::trailing_zeros(bits) as usize
+        let bits = self.word_bits(word, value);
+        word * 64 + bits.trailing_zeros() as usize
     }
 
     // Positions of the word of `from`, at or after it, equal to `value`. With `next_after` it is the Rust's `next_from`, in two
     // parts so that a search that ends in its first word is compiled in line.
-    fn bits_from(storage: &[u64], words: usize, from: usize, value: bool) -> u64
-        requires { Room words storage.now × (from < 64 * words) }
-        ensures { BitsFrom words from value storage.now result }
+    fn bits_from(self, from: usize, value: bool) -> u64
+        requires { from < 64 * self.words }
+        ensures { BitsFrom self.entry.words from value self.entry.storage.now result }
     {
-        Self::word_bits(storage, words, from / 64, value) & rest(from % 64)
+        self.word_bits(from / 64, value) & rest(from % 64)
     }
+}
 
+impl RangeBitset {
     // First position at or after `from` equal to `value`, or the capacity, where the word of `from` has none.
+    // Called and not copied, so it takes storage and words one by one: a `View` goes through memory, and a search took up to 8 % longer.
     fn next_after(storage: &[u64], words: usize, from: usize, value: bool) -> usize
         requires { Room words storage.now × (from < 64 * words) }
         ensures { NextAfter words from value storage.now result }
     {
+        let view = View { storage, words };
         let word = from / 64;
         let block = word / 64;
-        let later_words = Self::candidate_words(storage, words, block, value) & above(word % 64);
+        let later_words = view.candidate_words(block, value) & above(word % 64);
         if later_words != 0 {
-            let next_word = block * 64 + u64::trailing_zeros(later_words) as usize;
-            return Self::first_in_word(storage, words, next_word, value);
+            let next_word = block * 64 + later_words.trailing_zeros() as usize;
+            return view.first_in_word(next_word, value);
         }
-        let later_blocks = Self::candidate_blocks(storage, words, value) & above(block);
+        let later_blocks = view.candidate_blocks(value) & above(block);
         if later_blocks == 0 {
             return words * 64;
         }
-        let next_block = u64::trailing_zeros(later_blocks) as usize;
-        let in_block = Self::candidate_words(storage, words, next_block, value);
+        let next_block = later_blocks.trailing_zeros() as usize;
+        let in_block = view.candidate_words(next_block, value);
         if in_block == 0 {
             return words * 64;
         }
-        let next_word = next_block * 64 + u64::trailing_zeros(in_block) as usize;
-        Self::first_in_word(storage, words, next_word, value)
+        let next_word = next_block * 64 + in_block.trailing_zeros() as usize;
+        view.first_in_word(next_word, value)
     }
 
     // A position that was found, if it is below `end`.
-    fn below(at: usize, end: usize) -> Found
-        ensures { of_found result ≡ of_place (below at end) }
+    fn below(at: usize, end: usize) -> Option<usize>
+        ensures { of_position result ≡ of_place (below at end) }
     {
-        if at < end {
-            Found::At(at)
-        } else {
-            Found::Nothing
-        }
+        if at < end { Some(at) } else { None }
     }
 
     // First set position in `from..end`.
-    pub fn next_one(self, storage: &[u64], from: usize, end: usize) -> Found
+    pub fn next_one(
+        self,
+        storage: &[u64],
+        from: usize,
+        end: usize,
+    ) -> Result<Option<usize>, Refusal>
         ensures { NextEnsures true self storage.now from end result }
     {
-        let refused = Self::range_refusal(self, storage.len(), end);
-        if refused != 0 {
-            return Found::Refused(refused);
-        }
+        self.check_range(storage.len(), end)?;
         if from >= end || self.len == 0 {
-            return Found::Nothing;
+            return Ok(None);
         }
         let words = self.words as usize;
-        let bits = Self::bits_from(storage, words, from, true);
+        let view = View { storage, words };
+        let bits = view.bits_from(from, true);
         if bits != 0 {
-            return Self::below(from / 64 * 64 + u64::trailing_zeros(bits) as usize, end);
+            let at = from / 64 * 64 + bits.trailing_zeros() as usize;
+            return Ok(Self::below(at, end));
         }
-        Self::below(Self::next_after(storage, words, from, true), end)
+        Ok(Self::below(Self::next_after(storage, words, from, true), end))
     }
 
     // First clear position in `from..end`.
-    pub fn next_zero(self, storage: &[u64], from: usize, end: usize) -> Found
+    pub fn next_zero(
+        self,
+        storage: &[u64],
+        from: usize,
+        end: usize,
+    ) -> Result<Option<usize>, Refusal>
         ensures { NextEnsures false self storage.now from end result }
     {
-        let refused = Self::range_refusal(self, storage.len(), end);
-        if refused != 0 {
-            return Found::Refused(refused);
-        }
+        self.check_range(storage.len(), end)?;
         if from >= end {
-            return Found::Nothing;
+            return Ok(None);
         }
         if !self.allocated {
-            return Found::At(from);
+            return Ok(Some(from));
         }
         let words = self.words as usize;
-        let bits = Self::bits_from(storage, words, from, false);
+        let view = View { storage, words };
+        let bits = view.bits_from(from, false);
         if bits != 0 {
-            return Self::below(from / 64 * 64 + u64::trailing_zeros(bits) as usize, end);
+            let at = from / 64 * 64 + bits.trailing_zeros() as usize;
+            return Ok(Self::below(at, end));
         }
-        Self::below(Self::next_after(storage, words, from, false), end)
+        Ok(Self::below(Self::next_after(storage, words, from, false), end))
     }
 }

@@ -6,12 +6,13 @@ ghost use Rattle.range_bitset.specs.Inner.{Room};
 ghost use Rattle.range_bitset.specs.Levels.{NthInBlock, NthIn};
 
 use crate::in_word::nth_in_word;
-use crate::level::{seek_blocks, seek_words};
-use crate::{Found, RangeBitset};
+use crate::level::{Landing, Level};
+use crate::{RangeBitset, View};
+use answers::Refusal;
 
 impl RangeBitset {
     // The position of `value` in `block` that has `n` of its value before it there, of `total`. Not copied into `select`, so that a call
-    // which needs no block's words saves fewer registers.
+    // which needs no block's words saves fewer registers; so it takes storage and words one by one, where a `View` would go through memory.
     #[inline(never)]
     fn nth_in_block(
         storage: &[u64],
@@ -24,56 +25,67 @@ impl RangeBitset {
         requires { Room words storage.now × (block < blocks words) × (n < total) }
         ensures { NthInBlock words block value total n storage.now result }
     {
-        let some = Self::candidate_words(storage, words, block, value);
-        let others = Self::candidate_words(storage, words, block, !value);
+        let view = View { storage, words };
+        let some = view.candidate_words(block, value);
+        let others = view.candidate_words(block, !value);
         let from = 64 * block;
-        let size = Self::words_per_block(words, block);
-        let to = from + size;
-        let found = seek_words(&storage[from..to], 64 * size, value, some, others, total, n);
-        let word = from + found.part;
-        if found.whole {
-            return 64 * word + found.n;
-        }
-        let bits = Self::word_bits(storage, words, word, value);
-        64 * word + nth_in_word(bits, found.n as u64)
-    }
-
-    // The position of `value` that has `n` of its value before it, of `total`.
-    fn nth(storage: &[u64], words: usize, value: bool, total: usize, n: usize) -> usize
-        requires { Room words storage.now × (n < total) }
-        ensures { NthIn words value total n storage.now result }
-    {
-        let some = Self::candidate_blocks(storage, words, value);
-        let others = Self::candidate_blocks(storage, words, !value);
-        let from = Self::population_slot(words, 0);
-        let to = from + Self::blocks(words);
-        let found = seek_blocks(
-            &storage[from..to],
-            64 * words,
+        let size = view.words_per_block(block);
+        let level = Level::<64> {
+            sizes: &storage[from..from + size],
+            end: 64 * size,
             value,
             some,
             others,
-            total,
-            n,
-        );
-        if found.whole {
-            return 4096 * found.part + found.n;
+        };
+        match level.seek(total, n) {
+            Landing::At { part, n } => 64 * (from + part) + n,
+            Landing::Within { part, n, .. } => {
+                let word = from + part;
+                let bits = view.word_bits(word, value);
+                64 * word + nth_in_word(bits, n as u64)
+            }
         }
-        Self::nth_in_block(storage, words, found.part, value, found.size, found.n)
     }
+}
 
+impl View<'_> {
+    // The position of `value` that has `n` of its value before it, of `total`.
+    fn nth(self, value: bool, total: usize, n: usize) -> usize
+        requires { n < total }
+        ensures { NthIn self.entry.words value total n self.entry.storage.now result }
+    {
+        let some = self.candidate_blocks(value);
+        let others = self.candidate_blocks(!value);
+        let from = self.population_slot(0);
+        let to = from + self.blocks();
+        let level = Level::<4096> {
+            sizes: &self.storage[from..to],
+            end: 64 * self.words,
+            value,
+            some,
+            others,
+        };
+        match level.seek(total, n) {
+            Landing::At { part, n } => 4096 * part + n,
+            Landing::Within { part, n, size } => {
+                RangeBitset::nth_in_block(self.storage, self.words, part, value, size, n)
+            }
+        }
+    }
+}
+
+impl RangeBitset {
     // The set position that has `n` set positions before it.
-    pub fn select(self, storage: &[u64], n: usize) -> Found
+    pub fn select(self, storage: &[u64], n: usize) -> Result<Option<usize>, Refusal>
         ensures { SelectEnsures self storage.now n result }
     {
-        let refused = Self::refusal(self, storage.len());
-        if refused != 0 {
-            return Found::Refused(refused);
-        }
+        self.check_storage(storage.len())?;
         let len = self.len as usize;
         if n >= len {
-            return Found::Nothing;
+            return Ok(None);
         }
-        Found::At(Self::nth(storage, self.words as usize, true, len, n))
+        let words = self.words as usize;
+        let view = View { storage, words };
+        Ok(Some(view.nth(true, len, n)))
     }
 }

@@ -1,53 +1,53 @@
 // Not the Rust's: what the storage says, on any memory, for the audit. Assumes nothing.
 ghost use Rattle.std.specs.Prelude.{◌≡◌, ◌<◌};
 ghost use Rattle.range_bitset.specs.Layout.{blocks};
-ghost use Rattle.range_bitset.specs.Inner.{Room};
 ghost use Rattle.range_bitset.specs.Shown.{mixed_of, TopsEnsures, BlockEnsures};
 
-use crate::{MixedBlock, RangeBitset, ShownBlock, ShownTops, State, Tops, span};
+use crate::{Block, MixedBlock, RangeBitset, State, Tops, View, span};
+use answers::Refusal;
 
 impl RangeBitset {
-    pub fn top_masks(self, storage: &[u64]) -> ShownTops
+    pub fn top_masks(self, storage: &[u64]) -> Result<Tops, Refusal>
         ensures { TopsEnsures self storage.now result }
     {
-        let refused = Self::refusal(self, storage.len());
-        if refused != 0 {
-            return ShownTops::Refused(refused);
-        }
+        self.check_storage(storage.len())?;
         let words = self.words as usize;
-        ShownTops::Tops(Tops {
-            nonzero: storage[Self::top_nonzero_slot(words)],
-            full: storage[Self::top_full_slot(words)],
-            valid: span(0, Self::blocks(words)),
+        let view = View { storage, words };
+        Ok(Tops {
+            nonzero: storage[view.top_nonzero_slot()],
+            full: storage[view.top_full_slot()],
+            valid: span(0, view.blocks()),
         })
     }
+}
 
-    fn mixed_block(storage: &[u64], words: usize, block: usize) -> MixedBlock
-        requires { Room words storage.now × (block < blocks words) }
-        ensures { result ≡ mixed_of words storage.now block }
+impl View<'_> {
+    fn mixed_block(self, block: usize) -> MixedBlock
+        requires { block < blocks self.words }
+        ensures { result ≡ mixed_of self.entry.words self.entry.storage.now block }
     {
         MixedBlock {
-            nonzero: storage[Self::nonzero_slot(words, block)],
-            full: storage[Self::full_slot(words, block)],
-            valid: Self::valid_words(words, block),
-            population: storage[Self::population_slot(words, block)],
+            nonzero: self.storage[self.nonzero_slot(block)],
+            full: self.storage[self.full_slot(block)],
+            valid: self.valid_words(block),
+            population: self.storage[self.population_slot(block)],
         }
     }
+}
 
+impl RangeBitset {
     // The block of position `index`.
-    pub fn block_of(self, storage: &[u64], index: usize) -> ShownBlock
+    pub fn block_of(self, storage: &[u64], index: usize) -> Result<Block, Refusal>
         ensures { BlockEnsures self storage.now index result }
     {
-        let refused = Self::point_refusal(self, storage.len(), index);
-        if refused != 0 {
-            return ShownBlock::Refused(refused);
-        }
+        self.check_point(storage.len(), index)?;
         let words = self.words as usize;
+        let view = View { storage, words };
         let block = index / 4096;
-        match Self::block_state(storage, words, block) {
-            State::Empty => ShownBlock::Empty,
-            State::Full => ShownBlock::Full(64 * Self::words_per_block(words, block) as u32),
-            State::Mixed => ShownBlock::Mixed(Self::mixed_block(storage, words, block)),
-        }
+        Ok(match view.block_state(block) {
+            State::Empty => Block::Empty,
+            State::Full => Block::Full(64 * view.words_per_block(block) as u32),
+            State::Mixed => Block::Mixed(view.mixed_block(block)),
+        })
     }
 }

@@ -10,10 +10,8 @@ use Rattle.positions.proofs.Replies.{numbers_refusal}
 use Rattle.positions.proofs.Runs.{runs_ascending, runs_covered, runs_lengths}
 use Rattle.range_bitset.specs.Layout.{allowed}
 use Rattle.range_bitset.specs.Represents.{Represents, capacity_of}
-use Rattle.range_bitset.specs.Answers.{of_counted, allowed_capacity, good_head, storage_refusal}
+use Rattle.range_bitset.specs.Answers.{Counted, of_counted, allowed_capacity, good_head, storage_refusal}
 use Rattle.range_bitset.specs.declared.RangeBitset.{RangeBitset}
-use Rattle.range_bitset.specs.declared.Counted.{Counted}
-use Rattle.range_bitset.specs.declared.Counted.TheVariants as counted
 use Rattle.range_bitset.proofs.AcceptedHeads.{storage_accepted, good_bounds}
 use Rattle.range_bitset.proofs.AgreeingSets.{stored_agrees}
 use Rattle.saved_list.specs.Format.{saved_words, saved_count, saved_capacity, saved_positions, Good, first_bad_run, headed, whole, file_of, Bytes}
@@ -23,14 +21,16 @@ use Rattle.saved_list.proofs.Lists.{good_longest}
 use Rattle.saved_list.proofs.WrittenFiles.{Writable, capacity_back, count_back, saved_back, written_good, good_again}
 use Rattle.ledger.specs.Memory.{memory, lent_enough, Holds}
 use Rattle.ledger.specs.Machine.{opened_with, set_of, used}
-use Rattle.ledger.specs.Entries.{of_opened, open_reply, OpenEnsures}
+use Rattle.ledger.specs.Entries.{Opened, of_opened, open_reply, OpenEnsures}
 use Rattle.ledger.specs.declared.Ledger.{Ledger}
-use Rattle.ledger.specs.declared.Opened.{Opened}
-use Rattle.ledger.specs.declared.Opened.TheVariants as opened
+use Rattle.ledger.specs.declared.NotOpened.{NotOpened}
+use Rattle.ledger.specs.declared.NotOpened.TheVariants as why
+use Rattle.answers.specs.declared.Refusal.{Refusal}
+use Rattle.std.proofs.Common.{Result, Ok, Err}
 use Rattle.ledger.proofs.Refusals.{lent_accepted, set_accepts}
 use Rattle.list_writer.specs.Entry.{file_for, write_reply, WriteEnsures}
 use Rattle.list_writer.proofs.WriteReturns.{refusal_first, reply_is}
-use Rattle.round_trip.specs.RoundTrip.{lent_reply, Reopens, SetAndBack, Rewrites, FileAndBack, then, Agrees}
+use Rattle.round_trip.specs.RoundTrip.{lent_reply, Reopens, SetAndBack, Rewrites, FileAndBack, then, of_written, Agrees}
 
 -- ---- open's tests, in their order, where those of the file pass
 
@@ -138,10 +138,10 @@ module _ (h : RangeBitset) (st : List ℕ) (s : Positions) (rep : Represents h s
     opens : OpenEnsures (file_for h s) j st₂ journal r₂ st₂'
     opens = subst (λ (f : List ℕ). OpenEnsures f j st₂ journal r₂ st₂') written_file o
 
-    same_words : (l : Ledger) → r₂ ≡ opened.Head l → capacity_of l.set ≡ capacity_of h
+    same_words : (l : Ledger) → r₂ ≡ Ok l → capacity_of l.set ≡ capacity_of h
     same_words l e = (opens.holds l e).capacity ∙ capacity_back (capacity_of h) (runs s 0 (capacity_of h)) (writable h (length st) lent s)
 
-    same_set : (l : Ledger) → r₂ ≡ opened.Head l → Represents l.set st₂' s
+    same_set : (l : Ledger) → r₂ ≡ Ok l → Represents l.set st₂' s
     unfolding set_of
     same_set l e =
         represents_agrees l.set st₂' (saved_positions (file_for h s)) s (λ i m. positions_back h (length st) lent s i (omega (arith, same_words l e))) (opens.holds l e).set
@@ -184,7 +184,7 @@ opened_good file j n k e =
     by true p false wh q le fb t e = absurd (numbers_refusal _ _ _ e)
     by false p ac wh q le fb t e = absurd (numbers_refusal _ _ _ e)
 
-module _ (file : List ℕ) (bytes : Bytes file) (j : ℕ) (st journal : List ℕ) (l : Ledger) (st' : List ℕ) (o : OpenEnsures file j st journal (opened.Head l) st') where
+module _ (file : List ℕ) (bytes : Bytes file) (j : ℕ) (st journal : List ℕ) (l : Ledger) (st' : List ℕ) (o : OpenEnsures file j st journal (Ok l) st') where
   held : Holds (memory l st' journal) (opened_with (saved_capacity file) j (saved_positions file))
   held = o.holds l refl
 
@@ -217,38 +217,46 @@ file_and_back = rewrites
 
 module _ (file : List ℕ) (j : ℕ) (st journal buffer : List ℕ) where
   -- opened, then written
-  pub agrees_opened : (a : Opened) (l : Ledger) (st' : List ℕ) (r : Counted) (buffer' : List ℕ) → Bytes file → OpenEnsures file j st journal a st' → a ≡ opened.Head l
-      → WriteEnsures l.set st' buffer r buffer' → Agrees file j (length st) (length journal) buffer r buffer'
-  agrees_opened a l st' r buffer' b o e w =
-      let o' = subst (λ (x : Opened). OpenEnsures file j st journal x st') e o in
-      let t = file_and_back file b j st journal l st' o' buffer r buffer' w in
+  agrees_opened : (l : Ledger) (st' : List ℕ) (r : Counted) (buffer' : List ℕ) → Bytes file → OpenEnsures file j st journal (Ok l) st'
+      → WriteEnsures l.set st' buffer r buffer' → (w : Result ℕ NotOpened) → of_written w ≡ of_counted r → Agrees file j (length st) (length journal) buffer w buffer'
+  agrees_opened l st' r buffer' b o p w e =
+      let t = file_and_back file b j st journal l st' o buffer r buffer' p in
       record {
-        answers = t.answers ∙ ap (λ (x : Reply). then x (write_reply file (length buffer))) o'.refuses;
-        agrees = t.agrees;
-        unchanged = t.unchanged;
+        answers = e ∙ t.answers ∙ ap (λ (x : Reply). then x (write_reply file (length buffer))) o.refuses;
+        agrees = λ a. t.agrees (subst Accepted e a);
+        unchanged = λ a. t.unchanged (λ x. a (subst Accepted (sym e) x));
       }
+
+  pub agrees_written : (l : Ledger) (st' : List ℕ) (n : ℕ) (buffer' : List ℕ) → Bytes file → OpenEnsures file j st journal (Ok l) st'
+      → WriteEnsures l.set st' buffer (Ok n) buffer' → Agrees file j (length st) (length journal) buffer (Ok n) buffer'
+  agrees_written l st' n buffer' b o p = agrees_opened l st' (Ok n) buffer' b o p (Ok n) refl
+
+  -- opened, and the buffer is too short
+  pub agrees_short : (l : Ledger) (st' : List ℕ) (k : Refusal) (buffer' : List ℕ) → Bytes file → OpenEnsures file j st journal (Ok l) st'
+      → WriteEnsures l.set st' buffer (Err k) buffer' → Agrees file j (length st) (length journal) buffer (Err (why.Refused k)) buffer'
+  agrees_short l st' k buffer' b o p = agrees_opened l st' (Err k) buffer' b o p (Err (why.Refused k)) refl
 
   -- not opened
-  agrees_declined : (k : ℕ) (vs : List ℕ) → refused_with k vs ≡ open_reply file j (length st) (length journal) → Agrees file j (length st) (length journal) buffer (counted.Refused k) buffer
-  agrees_declined k vs e =
+  pub agrees_declined : (w : NotOpened) (st' : List ℕ) → OpenEnsures file j st journal (Err w) st' → Agrees file j (length st) (length journal) buffer (Err w) buffer
+  agrees_declined w st' o =
       record {
-        answers = ap (λ (x : Reply). then x (write_reply file (length buffer))) e;
-        agrees = λ a. absurd a;
+        answers = declined w (open_reply file j (length st) (length journal)) o.refuses;
+        agrees = λ a. absurd (not_written w a);
         unchanged = λ a. refl;
       }
+    where
+      not_written : (w : NotOpened) → Accepted (of_written (Err w)) → ⊥
+      not_written (why.Refused k) a = a
+      not_written (why.BadRun i) a = a
 
-  pub agrees_refused : (a : Opened) (st' : List ℕ) (k : ℕ) → OpenEnsures file j st journal a st' → a ≡ opened.Refused k
-      → Agrees file j (length st) (length journal) buffer (counted.Refused k) buffer
-  agrees_refused a st' k o e = agrees_declined k [] (sym (ap of_opened e) ∙ o.refuses)
-
-  pub agrees_bad_run : (a : Opened) (st' : List ℕ) (i : ℕ) → OpenEnsures file j st journal a st' → a ≡ opened.BadRun i
-      → Agrees file j (length st) (length journal) buffer (counted.Refused 8) buffer
-  agrees_bad_run a st' i o e = agrees_declined 8 (i ∷ []) (sym (ap of_opened e) ∙ o.refuses)
+      declined : (w : NotOpened) (x : Reply) → of_opened (Err w) ≡ x → of_written (Err w) ≡ then x (write_reply file (length buffer))
+      declined (why.Refused k) x e = subst (λ (y : Reply). of_written (Err (why.Refused k)) ≡ then y (write_reply file (length buffer))) e refl
+      declined (why.BadRun i) x e = subst (λ (y : Reply). of_written (Err (why.BadRun i)) ≡ then y (write_reply file (length buffer))) e refl
 
 -- what is answered lies in the buffer
-pub agreed_inside : (file : List ℕ) (j n k : ℕ) (buffer : List ℕ) (r : Counted) (m : ℕ) (buffer' : List ℕ) → Agrees file j n k buffer r buffer' → r ≡ counted.Count m
+pub agreed_inside : (file : List ℕ) (j n k : ℕ) (buffer : List ℕ) (r : Result ℕ NotOpened) (m : ℕ) (buffer' : List ℕ) → Agrees file j n k buffer r buffer' → r ≡ Ok m
     → m ≤ length buffer
-agreed_inside file j n k buffer r m buffer' a e = by (open_reply file j n k) (sym (ap of_counted e) ∙ a.answers)
+agreed_inside file j n k buffer r m buffer' a e = by (open_reply file j n k) (sym (ap of_written e) ∙ a.answers)
   where
     by : (x : Reply) → number m ≡ then x (write_reply file (length buffer)) → m ≤ length buffer
     by (numbers ns) e = let l = reply_is file m (length buffer) e in omega (arith, l.0, l.1)

@@ -1,18 +1,16 @@
 -- The round trips of a saved list, over what the writer and `open` promise: from a set to its file and back, and from a file to its set and
 -- back. Assumes nothing.
-use Rattle.std.specs.Prelude.{◌≡◌, cond, List, ◌++◌, ℕ, leb, ltb, length, take, drop}
+use Rattle.std.specs.Prelude.{◌≡◌, cond, List, ◌++◌, ℕ, leb, ltb, length, take, drop, Result, Ok, Err}
 use Rattle.positions.specs.Positions.{Positions, count}
 use Rattle.positions.specs.Replies.{Reply, numbers, refused_with, number, refusal, Accepted}
 use Rattle.range_bitset.specs.Represents.{Represents, capacity_of}
-use Rattle.range_bitset.specs.Answers.{of_counted}
+use Rattle.range_bitset.specs.Answers.{Counted, of_counted}
 use Rattle.range_bitset.specs.declared.RangeBitset.{RangeBitset}
-use Rattle.range_bitset.specs.declared.Counted.{Counted}
 use Rattle.ledger.specs.Memory.{lent_enough}
 use Rattle.saved_list.specs.Format.{Bytes}
-use Rattle.ledger.specs.Entries.{of_opened, open_reply, OpenEnsures}
+use Rattle.ledger.specs.Entries.{Opened, of_opened, open_reply, OpenEnsures}
 use Rattle.ledger.specs.declared.Ledger.{Ledger}
-use Rattle.ledger.specs.declared.Opened.{Opened}
-use Rattle.ledger.specs.declared.Opened.TheVariants as opened
+use Rattle.ledger.specs.declared.NotOpened.{NotOpened}
 use Rattle.list_writer.specs.Entry.{write_reply, WriteEnsures}
 
 -- ---- from a set to its file and back: r and st' are what opening the written file gave, for a head h and its set s
@@ -25,10 +23,10 @@ pub record Reopens (h : RangeBitset) (s : Positions) (j : ℕ) (st journal : Lis
   -- no other refusal
   pub refuses : of_opened r ≡ lent_reply h.words j (length st) (length journal)
   -- else the same capacity and the same positions, the flag clear exactly when there are none, and no call standing
-  pub same_capacity : (l : Ledger) → r ≡ opened.Head l → capacity_of l.set ≡ capacity_of h
-  pub same_positions : (l : Ledger) → r ≡ opened.Head l → Represents l.set st' s
-  pub flag : (l : Ledger) → r ≡ opened.Head l → l.set.allocated ≡ ltb 0 (count s 0 (capacity_of h))
-  pub no_calls : (l : Ledger) → r ≡ opened.Head l → (l.journal ≡ j) × (l.used ≡ 0)
+  pub same_capacity : (l : Ledger) → r ≡ Ok l → capacity_of l.set ≡ capacity_of h
+  pub same_positions : (l : Ledger) → r ≡ Ok l → Represents l.set st' s
+  pub flag : (l : Ledger) → r ≡ Ok l → l.set.allocated ≡ ltb 0 (count s 0 (capacity_of h))
+  pub no_calls : (l : Ledger) → r ≡ Ok l → (l.journal ≡ j) × (l.used ≡ 0)
 
 -- the first round trip: whatever was written for a set, opening it gives the set back
 abbrev pub SetAndBack : Type 0
@@ -51,18 +49,23 @@ pub record Rewrites (file buffer : List ℕ) (r : Counted) (buffer' : List ℕ) 
 abbrev pub FileAndBack : Type 0
 FileAndBack =
     (file : List ℕ) → Bytes file
-    → (j : ℕ) (st journal : List ℕ) (l : Ledger) (st' : List ℕ) → OpenEnsures file j st journal (opened.Head l) st'
+    → (j : ℕ) (st journal : List ℕ) (l : Ledger) (st' : List ℕ) → OpenEnsures file j st journal (Ok l) st'
     → (buffer : List ℕ) (r : Counted) (buffer' : List ℕ) → WriteEnsures l.set st' buffer r buffer'
     → Rewrites file buffer r buffer'
 
--- ---- both in one function: opening's refusal, without the bad run's index, and else what writing answers
+-- ---- both in one function: opening's refusal, and else what writing answers
 
 abbrev pub then : Reply → Reply → Reply
 then (numbers ns) next = next
-then (refused_with k vs) next = refusal k
+then (refused_with k vs) next = refused_with k vs
+
+-- the length that was written, or why nothing was
+abbrev pub of_written : Result ℕ NotOpened → Reply
+of_written (Ok n) = number n
+of_written (Err why) = of_opened (Err why)
 
 -- n storage numbers and k journal numbers are lent
-pub record Agrees (file : List ℕ) (j n k : ℕ) (buffer : List ℕ) (r : Counted) (buffer' : List ℕ) : Type 0 where
-  pub answers : of_counted r ≡ then (open_reply file j n k) (write_reply file (length buffer))
-  pub agrees : Accepted (of_counted r) → buffer' ≡ file ++ drop (length file) buffer
-  pub unchanged : (Accepted (of_counted r) → ⊥) → buffer' ≡ buffer
+pub record Agrees (file : List ℕ) (j n k : ℕ) (buffer : List ℕ) (r : Result ℕ NotOpened) (buffer' : List ℕ) : Type 0 where
+  pub answers : of_written r ≡ then (open_reply file j n k) (write_reply file (length buffer))
+  pub agrees : Accepted (of_written r) → buffer' ≡ file ++ drop (length file) buffer
+  pub unchanged : (Accepted (of_written r) → ⊥) → buffer' ≡ buffer

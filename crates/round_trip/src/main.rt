@@ -7,8 +7,7 @@
 ghost use Rattle.std.specs.Prelude.{length};
 ghost use Rattle.round_trip.specs.RoundTrip.{Agrees};
 
-use ledger::{Ledger, Opened};
-use range_bitset::Counted;
+use ledger::{Ledger, NotOpened};
 use std::io;
 use std::io::{Read, Write};
 
@@ -19,14 +18,12 @@ fn open_and_write(
     storage: &mut [u64],
     journal: &[u32],
     buffer: &mut [u8],
-) -> Counted
+) -> Result<u32, NotOpened>
     ensures { Agrees file.now limit (length storage.old) (length journal.now) buffer.old result buffer.new }
 {
-    match Ledger::open(file, limit, storage, journal) {
-        Opened::Head(head) => list_writer::write(head.set, storage, buffer),
-        Opened::Refused(k) => Counted::Refused(k),
-        Opened::BadRun(_) => Counted::Refused(8),
-    }
+    let head = Ledger::open(file, limit, storage, journal)?;
+    let length = list_writer::write(head.set, storage, buffer)?;
+    Ok(length)
 }
 
 fn main(rt: HostRuntime) -> io::Result<()> {
@@ -36,7 +33,8 @@ fn main(rt: HostRuntime) -> io::Result<()> {
     let journal = [0x55555555u32; 4];
     let mut buffer = [0u8; 4096];
     match open_and_write(file.as_slice(), 4, &mut storage, &journal, &mut buffer) {
-        Counted::Count(length) => rt.stdout().write_all(&buffer[..length as usize]),
-        Counted::Refused(k) => print!(rt; "refused {k}"),
+        Ok(length) => rt.stdout().write_all(&buffer[..length as usize]),
+        Err(NotOpened::Refused(refusal)) => print!(rt; "refused {}", u8::from(refusal)),
+        Err(NotOpened::BadRun(_)) => print!(rt; "refused 8"),
     }
 }

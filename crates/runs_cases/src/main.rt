@@ -3,23 +3,21 @@
 // 01's format gives. Assumes that the kit's write does what it says.
 #![tactic(auto)]
 
-use saved_list::FoundRun;
+use saved_list::Run;
 use std::io;
 
-fn say_run(rt: &impl Print, found: FoundRun) -> io::Result<()> {
+fn say_run(rt: &impl Print, found: Option<Run>) -> io::Result<()> {
     match found {
-        FoundRun::At(start, end) => println!(rt; "{start}..{end}"),
-        FoundRun::End => println!(rt; "none"),
+        Some(Run { start, end }) => println!(rt; "{start}..{end}"),
+        None => println!(rt; "none"),
     }
 }
 
 // Prints the two runs from an index on, and answers the index after them: all as the lent reader left them.
 fn say_two(rt: &impl Print, file: &[u8], at: usize) -> io::Result<usize> {
     let runs = saved_list::two_steps(file, at);
-    let first = runs.first;
-    let second = runs.second;
-    say_run(rt, first)?;
-    say_run(rt, second)?;
+    say_run(rt, runs.first)?;
+    say_run(rt, runs.second)?;
     Ok(runs.at)
 }
 
@@ -30,7 +28,5 @@ fn main(rt: HostRuntime) -> io::Result<()> {
     let at = say_two(&rt, &file, 0)?;
     let at = say_two(&rt, &file, at)?;
     println!(rt; "{at}")?;
-    let far = saved_list::two_steps(&file, usize::MAX);
-    let none = far.first;
-    say_run(&rt, none)
+    say_run(&rt, saved_list::two_steps(&file, usize::MAX).first)
 }

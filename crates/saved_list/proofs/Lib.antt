@@ -4,7 +4,6 @@ pub mod Bytes
 pub mod Rule
 pub mod Lists
 pub mod WrittenFiles
-pub mod ReaderReturns
 pub mod GoodFiles
-pub mod Steps
+pub mod Turns
 mod Examples

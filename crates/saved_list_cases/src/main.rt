@@ -4,48 +4,31 @@
 // read and write do what they say, and that a file has at most 4,096 bytes: more are not read.
 #![tactic(auto)]
 
-use saved_list::{FoundRun, Header, LengthCheck, RunCheck};
+use saved_list::{BadRun, Header, Run, Runs};
 use std::io::Read;
 use std::rt::Files;
 use std::{env, fs, io};
 
-// The run of an index, as start..end, and whether there is one.
-fn print_run(rt: &impl Print, file: &[u8], index: usize) -> io::Result<bool> {
-    let found = saved_list::run_at(file, index);
-    let FoundRun::At(start, end) = found else {
-        return Ok(false);
-    };
-    print!(rt; ", {start}..{end}")?;
-    Ok(true)
-}
-
-// Each run, from the first to the last. There are fewer than bytes.
-fn print_runs(rt: &impl Print, file: &[u8]) -> io::Result<()> {
-    let mut index = 0;
-    while index < file.len() && print_run(rt, file, index)? {
-        index += 1;
+// The run rule, and where no run is bad, W, n and each run as start..end.
+fn print_checked(rt: &impl Print, file: &[u8], header: Header) -> io::Result<()> {
+    if let Err(BadRun { index }) = saved_list::check_runs(file) {
+        return print!(rt; "refused 8, run {index}");
+    }
+    let Header { words, runs } = header;
+    print!(rt; "W {words}, n {runs}")?;
+    for Run { start, end } in Runs::new(file) {
+        print!(rt; ", {start}..{end}")?;
     }
     Ok(())
-}
-
-// The run rule, and the runs where none is bad.
-fn print_checked(rt: &impl Print, file: &[u8], words: u16, count: u32) -> io::Result<()> {
-    match saved_list::check_runs(file) {
-        RunCheck::BadRun(index) => print!(rt; "refused 8, run {index}"),
-        RunCheck::AllGood => {
-            print!(rt; "W {words}, n {count}")?;
-            print_runs(rt, file)
-        }
-    }
 }
 
 // What opening the file gives, but for refusals 1 and 3.
 fn print_file(rt: &impl Print, file: &[u8]) -> io::Result<()> {
     match saved_list::read_header(file) {
-        Header::BadHeader => print!(rt; "refused 7, header"),
-        Header::Fields(words, count) => match saved_list::check_length(file) {
-            LengthCheck::BadLength => print!(rt; "refused 7, length"),
-            LengthCheck::GoodLength => print_checked(rt, file, words, count),
+        Err(refusal) => print!(rt; "refused {}, header", u8::from(refusal)),
+        Ok(header) => match saved_list::check_length(file) {
+            Err(refusal) => print!(rt; "refused {}, length", u8::from(refusal)),
+            Ok(()) => print_checked(rt, file, header),
         },
     }
 }

@@ -1,6 +1,6 @@
 -- Laws of the walk: a search's place, the runs by two searches each, counted, few enough, and written by those above, each run as
 -- the numbers that `code` makes of it. Assumes nothing.
-use Rattle.set_runs.proofs.Kit.{◌≡◌, refl, sym, ap, ◌∙◌, ◌⊎◌, inl, inr, Bool, true, false, not, Bool·not-not, List, [], ◌∷◌, ◌++◌, append_assoc, append-nil, ℕ, ◌+◌, ◌*◌, ◌-◌, ◌%◌, ◌≤◌, ◌<◌, arith, leb-true, leb-false, le-leb, lt-leb, leb, length, get_or, take}
+use Rattle.set_runs.proofs.Kit.{◌≡◌, refl, sym, ap, ◌∙◌, ◌⊎◌, inl, inr, Bool, true, false, not, Bool·not-not, List, [], ◌∷◌, ◌++◌, append_assoc, append-nil, ℕ, ◌+◌, ◌*◌, ◌-◌, ◌%◌, ◌≤◌, ◌<◌, arith, leb-true, leb-false, le-leb, lt-leb, leb, length, get_or, take, subst, ◌^◌, ap₂, dec_lt}
 use Rattle.positions.specs.Positions.{Positions, Place, found_at, not_found, first}
 use Rattle.positions.specs.Runs.{Run, run, place_or, run_end, changed_runs, encoded}
 use Rattle.positions.proofs.Searches.{Searched, hit, miss, first_means}
@@ -8,52 +8,79 @@ use Rattle.positions.proofs.Changes.{changed_none, changed_next, changed_few}
 use Rattle.positions.proofs.Runs.{runs_empty}
 use Rattle.range_bitset.specs.Represents.{Represents}
 use Rattle.positions.specs.Replies.{of_place}
-use Rattle.range_bitset.specs.Answers.{of_found, range_refusal}
-use Rattle.range_bitset.specs.Entries.{NextEnsures}
+use Rattle.std.proofs.Common.{Option, Some, None}
+use Rattle.std.specs.Option.{is_some}
+use Rattle.answers.specs.Refusals.{of_position}
+use Rattle.range_bitset.specs.Answers.{range_refusal}
 use Rattle.range_bitset.specs.declared.RangeBitset.{RangeBitset}
-use Rattle.range_bitset.specs.declared.Found.{Found}
-use Rattle.range_bitset.specs.declared.Found.TheVariants as found
 use Rattle.range_bitset.proofs.AcceptedHeads.{range_accepted}
-use Rattle.set_runs.specs.Walks.{Finds, RunsFit, CountsRuns, WritesRuns, found_in}
+use Rattle.std.specs.declared.ops.Range.{Range}
+use Rattle.set_runs.specs.Runs.{GivesRun}
+use Rattle.set_runs.specs.declared.Runs.{Runs}
+use Rattle.set_runs.specs.Walks.{Finds, FindsRun, RunsFit, CountsRuns, WritesRuns}
 
--- ---- a search
+-- ---- a search, read as a place
 
-pub found_place : (h : RangeBitset) (st : List ℕ) (a e : ℕ) (v : Bool) (p : Found) → NextEnsures v h st a e p → Finds h st a e v (found_in p e)
-found_place h st a e v p q z s r = by p (first s v a e) (q.answers z s r)
-  where
-    by : (p : Found) (f : Place) → of_found p ≡ of_place f → found_in p e ≡ place_or e f
-    by (found.At i) (found_at j) x = cc
-    by (found.At i) not_found x = absurd (let z : ◌≡◌ {A = ℕ} 0 1 = cc in omega arith)
-    by found.Nothing (found_at j) x = absurd (let z : ◌≡◌ {A = ℕ} 0 1 = cc in omega arith)
-    by found.Nothing not_found x = refl
-    by (found.Refused k) (found_at j) x = absurd (let z : ◌≡◌ {A = ℕ} 0 1 = cc in omega arith)
-    by (found.Refused k) not_found x = absurd (let z : ◌≡◌ {A = ℕ} 0 1 = cc in omega arith)
+found_as : (f : Place) (p : ℕ) → of_position (Some p) ≡ of_place f → f ≡ found_at p
+found_as (found_at i) p e = cc
+found_as not_found p e = cc
+
+pub found_not : (f : Place) → of_position None ≡ of_place f → f ≡ not_found
+found_not (found_at i) e = cc
+found_not not_found e = refl
+
+pub found_or : (f : Place) (e : ℕ) (r : Option ℕ) → of_position r ≡ of_place f → (p : ℕ) → (r ≡ Some p → p ≡ place_or e f) × (r ≡ None → e ≡ place_or e f)
+found_or f e r x p = (λ y. ap (place_or e) (sym (found_as f p (ap of_position (sym y) ∙ x))), λ y. ap (place_or e) (sym (found_not f (ap of_position (sym y) ∙ x))))
 
 -- ---- the changed runs by two searches: p the first position to change, q the first behind it that is not
 
-pub no_run : (s : Positions) (a e : ℕ) (v : Bool) (p : ℕ) → p ≡ place_or e (first s (not v) a e) → e ≤ p → changed_runs s a e v ≡ []
+no_run : (s : Positions) (a e : ℕ) (v : Bool) → first s (not v) a e ≡ not_found → changed_runs s a e v ≡ []
 unfolding changed_runs
-no_run s a e v p x h = by (first s (not v) a e) refl (first_means s (not v) a e) x
+no_run s a e v k = by (leb a e) refl
   where
-    empty : (l : Bool) → leb a e ≡ l → first s (not v) a e ≡ not_found → changed_runs s a e v ≡ []
-    empty true y k = changed_none s a e v (leb-true a e y) k
-    empty false y k = runs_empty _ a e (omega (arith, leb-false a e y))
+    by : (l : Bool) → leb a e ≡ l → changed_runs s a e v ≡ []
+    by true y = changed_none s a e v (leb-true a e y) k
+    by false y = runs_empty _ a e (omega (arith, leb-false a e y))
 
-    by : (f : Place) → first s (not v) a e ≡ f → Searched s (not v) a e f → p ≡ place_or e f → changed_runs s a e v ≡ []
-    by f k (hit i m) y = absurd (omega (arith, m.high))
-    by f k (miss m) y = empty (leb a e) refl k
-
-pub next_run : (s : Positions) (a e : ℕ) (v : Bool) (p q : ℕ) → p ≡ place_or e (first s (not v) a e) → q ≡ place_or e (first s v p e) → p < e
+next_run : (s : Positions) (a e : ℕ) (v : Bool) (p q : ℕ) → first s (not v) a e ≡ found_at p → q ≡ place_or e (first s v p e)
     → changed_runs s a e v ≡ run p q ∷ changed_runs s q e v
 unfolding run_end
-next_run s a e v p q x y h = by (first s (not v) a e) refl x
-  where
-    ends : q ≡ run_end s (not v) p e
-    ends = rw Bool·not-not y
+next_run s a e v p q k y =
+    let ends : q ≡ run_end s (not v) p e = rw Bool·not-not y in
+    rw ends (changed_next s a e v p k)
 
-    by : (f : Place) → first s (not v) a e ≡ f → p ≡ place_or e f → changed_runs s a e v ≡ run p q ∷ changed_runs s q e v
-    by (found_at i) k z = rw ends (changed_next s a e v p (rw z k))
-    by not_found k z = absurd (omega arith)
+-- the same on the memory that was searched
+module _ (h : RangeBitset) (st : List ℕ) (from e : ℕ) (v : Bool) (z : range_refusal h (length st) e ≡ 0) (s : Positions) (r : Represents h st s) where
+  pub none_left : Finds h st from e (not v) None → changed_runs s from e v ≡ []
+  none_left x = no_run s from e v (found_not _ (x z s r))
+
+  pub run_found : (p q : ℕ) → FindsRun h st from e v p q → changed_runs s from e v ≡ run p q ∷ changed_runs s q e v
+  run_found p q x = next_run s from e v p q (found_as _ p (x.start z s r)) (x.end z s r)
+
+-- ---- the iterator
+
+-- it walks over the runs of ..e that giving it the value v changes
+pub record Along (h : RangeBitset) (st : List ℕ) (e : ℕ) (v : Bool) (x : Runs) : Type 0 where
+  pub set_is : x.set ≡ h
+  pub storage_is : x.storage.now ≡ st
+  pub end_is : x.end ≡ e
+  pub value_is : x.value ≡ v
+
+module _ (h : RangeBitset) (st : List ℕ) (e : ℕ) (v : Bool) (x : Runs) (a : Along h st e v x) where
+  pub along_next : (r : Option (Range ℕ)) (x' : Runs) → GivesRun x r x' → Along h st e v x'
+  along_next r x' g =
+      record {
+        set_is = g.same_set ∙ a.set_is;
+        storage_is = ap (λ (b : _). b.now) g.same_storage ∙ a.storage_is;
+        end_is = g.same_end ∙ a.end_is;
+        value_is = g.same_value ∙ a.value_is;
+      }
+
+  pub along_some : (q : Range ℕ) (x' : Runs) → GivesRun x (Some q) x' → (p : ℕ) × (q.start ≡ p % 2 ^ 32) × (q.end ≡ x'.from % 2 ^ 32) × FindsRun h st x.from e v p x'.from
+  along_some q x' g = rw (← a.set_is, ← a.storage_is, ← a.end_is, ← a.value_is) (g.some q refl)
+
+  pub along_none : (x' : Runs) → GivesRun x None x' → Finds h st x.from e (not v) None
+  along_none x' g = rw (← a.set_is, ← a.storage_is, ← a.end_is, ← a.value_is) (g.none refl)
 
 -- ---- counting
 
@@ -67,18 +94,28 @@ pub counting_start : (h : RangeBitset) (st : List ℕ) (a e : ℕ) (v : Bool) �
 counting_start h st a e v z s r = omega arith
 
 pub counting_next : (h : RangeBitset) (st : List ℕ) (a e : ℕ) (v : Bool) (n from p q : ℕ)
-    → Finds h st from e (not v) p → Finds h st p e v q → p < e → Counting h st a e v n from → Counting h st a e v (n + 1) q
-counting_next h st a e v n from p q x y l k z s r =
-    omega (arith, k z s r, ap length (next_run s from e v p q (x z s r) (y z s r) l))
+    → FindsRun h st from e v p q → Counting h st a e v n from → Counting h st a e v (n + 1) q
+counting_next h st a e v n from p q x k z s r =
+    omega (arith, k z s r, ap length (run_found h st from e v z s r p q x))
 
-pub counting_done : (h : RangeBitset) (st : List ℕ) (a e : ℕ) (v : Bool) (most n from p : ℕ)
-    → Finds h st from e (not v) p → e ≤ p → n ≤ most → Counting h st a e v n from → CountsRuns h st a e v most n
-counting_done h st a e v most n from p x l m k =
-    record { most_runs = m; counted = λ z s r. omega (arith, k z s r, ap length (no_run s from e v p (x z s r) l)) }
+pub counting_done : (h : RangeBitset) (st : List ℕ) (a e : ℕ) (v : Bool) (most n from : ℕ)
+    → Finds h st from e (not v) None → n ≤ most → Counting h st a e v n from → CountsRuns h st a e v most n
+counting_done h st a e v most n from x m k =
+    record { most_runs = m; counted = λ z s r. omega (arith, k z s r, ap length (none_left h st from e v z s r x)) }
 
 pub counting_most : (h : RangeBitset) (st : List ℕ) (a e : ℕ) (v : Bool) (most n from : ℕ)
     → n ≤ most → most ≤ n → Counting h st a e v n from → CountsRuns h st a e v most n
 counting_most h st a e v most n from l m k = record { most_runs = l; counted = λ z s r. omega (arith, k z s r) }
+
+-- one step of the iterator, and where it has no run left
+module _ (h : RangeBitset) (st : List ℕ) (a e : ℕ) (v : Bool) (most n : ℕ) (x x' : Runs) (w : Along h st e v x) where
+  pub counted_one : (r : Option (Range ℕ)) → GivesRun x r x' → is_some r ≡ true → Counting h st a e v n x.from → Counting h st a e v (n + 1) x'.from
+  counted_one (Some q) g y k = let f = along_some h st e v x w q x' g in counting_next h st a e v n x.from f.0 x'.from f.3 k
+  counted_one None g y k = cc
+
+  pub counted_all : (r : Option (Range ℕ)) → GivesRun x r x' → is_some r ≡ false → n ≤ most → Counting h st a e v n x.from → CountsRuns h st a e v most n
+  counted_all (Some q) g y l k = cc
+  counted_all None g y l k = counting_done h st a e v most n x.from (along_none h st e v x w x' g) l k
 
 -- ---- fitting
 
@@ -124,28 +161,28 @@ place_le s v a e = by (first s v a e) (first_means s v a e)
     by f (miss m) = omega arith
 
 -- the run that is written next, both its ends in 32 bits
-written_next : (h : RangeBitset) (st : List ℕ) (e : ℕ) (v : Bool) (s : Positions) (from p q : ℕ) → range_refusal h (length st) e ≡ 0
-    → p ≡ place_or e (first s (not v) from e) → q ≡ place_or e (first s v p e)
-    → p < e → changed_runs s from e v ≡ run (p % 4294967296) (q % 4294967296) ∷ changed_runs s q e v
-written_next h st e v s from p q z k l some =
+written_next : (h : RangeBitset) (st : List ℕ) (e : ℕ) (v : Bool) (s : Positions) (from p q : ℕ) → range_refusal h (length st) e ≡ 0 → Represents h st s
+    → FindsRun h st from e v p q → changed_runs s from e v ≡ run (p % 4294967296) (q % 4294967296) ∷ changed_runs s q e v
+written_next h st e v s from p q z r x =
     let b = range_accepted h st e z in
     let t : e ≤ 262144 = omega (arith, b.0.most, b.1) in
+    let p_at : p ≡ place_or e (first s (not v) from e) = ap (place_or e) (sym (found_as _ p (x.start z s r))) in
     let u : p % 4294967296 ≡ p = omega (arith, place_le s (not v) from e) in
-    let w : q % 4294967296 ≡ q = omega (arith, place_le s v p e) in
-    rw (u, w) (next_run s from e v p q k l some)
+    let w : q % 4294967296 ≡ q = omega (arith, place_le s v p e, x.end z s r) in
+    rw (u, w) (run_found h st from e v z s r p q x)
 
 -- the run that the two searches found is put behind the others, its ends in 32 bits, which hold every position
 pub writing_next : (code : Run → List ℕ) (h : RangeBitset) (st : List ℕ) (a e : ℕ) (v : Bool) (u : ℕ) (x₀ x x' : List ℕ) (i from p q at at' : ℕ)
-    → p < e → Finds h st from e (not v) p → Finds h st p e v q
+    → FindsRun h st from e v p q
     → Puts (code (run (p % 4294967296) (q % 4294967296))) at at' x x' → Writing code h st a e v u x₀ x i at from
     → Writing code h st a e v u x₀ x' (i + 1) at' q
-writing_next code h st a e v u x₀ x x' i from p q at at' g k l n w =
+writing_next code h st a e v u x₀ x x' i from p q at at' k n w =
     record {
       low = omega (arith, n.low, w.low);
       same_length = n.same_length ∙ w.same_length;
       others = rest;
-      left = counting_next h st a e v i from p q k l g w.left;
-      so_far = λ z s r. joined s (written_next h st e v s from p q z (k z s r) (l z s r) g) (w.so_far z s r);
+      left = counting_next h st a e v i from p q k w.left;
+      so_far = λ z s r. joined s (written_next h st e v s from p q z r k) (w.so_far z s r);
     }
   where
     rest : (c : ℕ) → (c < u) ⊎ (at' ≤ c) → get_or x' c 0 ≡ get_or x₀ c 0
@@ -157,6 +194,15 @@ writing_next code h st a e v u x₀ x x' i from p q at at' g k l n w =
         → take at' x' ++ encoded code (changed_runs s q e v) ≡ take u x₀ ++ encoded code (changed_runs s a e v)
     joined s c d =
         rw (n.here, append_assoc (take at x) (code (run (p % 4294967296) (q % 4294967296))) (encoded code (changed_runs s q e v))) (rw c at d)
+
+-- a step of the iterator, whose run is put behind the others
+pub writing_one : (code : Run → List ℕ) (h : RangeBitset) (st : List ℕ) (a e : ℕ) (v : Bool) (u : ℕ) (l₀ l l' : List ℕ) (i at at' : ℕ) (x x' : Runs) (q : Range ℕ)
+    → Along h st e v x → GivesRun x (Some q) x' → Puts (code (run q.start q.end)) at at' l l'
+    → Writing code h st a e v u l₀ l i at x.from → Writing code h st a e v u l₀ l' (i + 1) at' x'.from
+writing_one code h st a e v u l₀ l l' i at at' x x' q w g n k =
+    let f = along_some h st e v x w q x' g in
+    writing_next code h st a e v u l₀ l l' i x.from f.0 x'.from at at' f.3
+    (subst (λ (r : Run). Puts (code r) at at' l l') (ap₂ run f.1 f.2) n) k
 
 -- the loop ends where no run is left, as far as all of them fit
 writing_ends : (code : Run → List ℕ) (h : RangeBitset) (st : List ℕ) (a e : ℕ) (v : Bool) (u most : ℕ) (x₀ x : List ℕ) (i at from : ℕ) → i ≤ most
@@ -179,12 +225,13 @@ writing_ends code h st a e v u most x₀ x i at from l none w =
         → take at x ≡ take u x₀ ++ encoded code (changed_runs s a e v)
     closed s b d = rw (← d, empty (changed_runs s from e v) b, append-nil (take at x))
 
-pub writing_done : (code : Run → List ℕ) (h : RangeBitset) (st : List ℕ) (a e : ℕ) (v : Bool) (u most : ℕ) (x₀ x : List ℕ) (i at from p : ℕ)
-    → Finds h st from e (not v) p → e ≤ p → i ≤ most → Writing code h st a e v u x₀ x i at from → WritesRuns code h st a e v most i u at x₀ x
-writing_done code h st a e v u most x₀ x i at from p f g l w =
-    writing_ends code h st a e v u most x₀ x i at from l (λ z s r t. ap length (no_run s from e v p (f z s r) g)) w
-
-pub writing_most : (code : Run → List ℕ) (h : RangeBitset) (st : List ℕ) (a e : ℕ) (v : Bool) (u most : ℕ) (x₀ x : List ℕ) (i at from : ℕ)
-    → i ≤ most → most ≤ i → Writing code h st a e v u x₀ x i at from → WritesRuns code h st a e v most i u at x₀ x
-writing_most code h st a e v u most x₀ x i at from l g w =
-    writing_ends code h st a e v u most x₀ x i at from l (λ z s r t. omega (arith, w.left z s r)) w
+-- as many runs as may be written were taken, or the iterator has none left
+pub writing_last : (code : Run → List ℕ) (h : RangeBitset) (st : List ℕ) (a e : ℕ) (v : Bool) (u most left : ℕ) (l₀ l : List ℕ) (i at : ℕ) (x x' : Runs)
+    → Along h st e v x → (0 < left → GivesRun x None x') → i + left ≡ most → Writing code h st a e v u l₀ l i at x.from
+    → WritesRuns code h st a e v most i u at l₀ l
+writing_last code h st a e v u most left l₀ l i at x x' w g m k = by (dec_lt 0 left)
+  where
+    by : Dec (0 < left) → WritesRuns code h st a e v most i u at l₀ l
+    by (yes p) =
+        writing_ends code h st a e v u most l₀ l i at x.from (omega arith) (λ z s r t. ap length (none_left h st x.from e v z s r (along_none h st e v x w x' (g p)))) k
+    by (no p) = writing_ends code h st a e v u most l₀ l i at x.from (omega arith) (λ z s r t. omega (arith, k.left z s r)) k

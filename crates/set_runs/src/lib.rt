@@ -1,77 +1,79 @@
-// The runs of a set, walked by two searches each: sought, and counted as far as is asked. A run is a longest stretch of positions
-// that giving a range a value would change; at the value false these are the set's own runs. What the walk finds is written by
-// those above: the ledger into its journal, list_writer into a saved list.
+// The runs of a set: an iterator that finds each by two searches, and whether they are few enough. A run is a longest stretch of
+// positions that giving a range a value would change; at the value false these are the set's own runs. What the iterator finds is
+// written by those above: the ledger into its journal, list_writer into a saved list.
 // Assumes nothing of its callers: no entry has a `requires`.
 #![tactic(auto)]
 
-ghost use Rattle.std.specs.Prelude.{◌≡◌};
-ghost use Rattle.set_runs.specs.Walks.{Finds, RunsFit, CountsRuns, found_in};
+ghost use Rattle.std.specs.Prelude.{◌≡◌, ◌%◌, ◌^◌};
+ghost use Rattle.set_runs.specs.Walks.{Finds, RunsFit, CountsRuns};
 
-use range_bitset::{Found, RangeBitset};
+use range_bitset::RangeBitset;
+use std::ops::Range;
 
-// First position in `from..end` equal to `value`, or `end`.
-pub fn find(set: RangeBitset, storage: &[u64], from: usize, end: usize, value: bool) -> usize
+// The runs that giving `from..end` the value changes, from the first on, in 32 bits, which hold every position. On memory that is no
+// set's they may never end.
+#[derive(Clone, Copy, Debug)]
+pub struct Runs<'a> {
+    pub set: RangeBitset,
+    pub storage: &'a [u64],
+    pub from: usize,
+    pub end: usize,
+    pub value: bool,
+}
+
+impl Iterator for Runs<'_> {
+    ghost use Rattle.set_runs.specs.Runs.{GivesRun};
+
+    type Item = Range<u32>;
+
+    ghost next_gives = { GivesRun };
+
+    fn next(&mut self) -> Option<Range<u32>> {
+        let start = find(self.set, self.storage, self.from, self.end, !self.value)?;
+        let end = find(self.set, self.storage, start, self.end, self.value).unwrap_or(self.end);
+        self.from = end;
+        Some(low32(start)..low32(end))
+    }
+}
+
+// The low 32 bits.
+fn low32(position: usize) -> u32
+    ensures { result ≡ position % 2 ^ 32 }
+{
+    (position % 0x1_0000_0000) as u32
+}
+
+// First position in `from..end` equal to `value`.
+fn find(set: RangeBitset, storage: &[u64], from: usize, end: usize, value: bool) -> Option<usize>
     ensures { Finds set storage.now from end value result }
 {
-    if value {
-        place_or(set.next_one(storage, from, end), end)
+    let found = if value {
+        set.next_one(storage, from, end)
     } else {
-        place_or(set.next_zero(storage, from, end), end)
-    }
+        set.next_zero(storage, from, end)
+    };
+    found.unwrap_or(None)
 }
 
-// Whether giving `start..end` the value changes at most `most` runs. Two runs have a position between them, so a short range
-// need not be searched.
-pub fn runs_fit(
-    set: RangeBitset,
-    storage: &[u64],
-    start: usize,
-    end: usize,
-    value: bool,
-    most: usize,
-) -> bool
-    ensures { RunsFit set storage.now start end value most result }
-{
-    if end <= start {
-        return true;
+impl Runs<'_> {
+    // Whether there are at most `most` of them. Two runs have a position between them, so a short range need not be searched.
+    pub fn fit(self, most: usize) -> bool
+        ensures { RunsFit self.entry.set self.entry.storage.now self.entry.from self.entry.end self.entry.value most result }
+    {
+        let length = self.end.saturating_sub(self.from);
+        length - length / 2 <= most || self.count_up_to(most + 1) <= most
     }
-    let length = end - start;
-    if length - length / 2 <= most {
-        return true;
-    }
-    count_runs(set, storage, start, end, value, most + 1) <= most
-}
 
-// How many runs giving `start..end` the value changes, counted up to `most`.
-fn count_runs(
-    set: RangeBitset,
-    storage: &[u64],
-    start: usize,
-    end: usize,
-    value: bool,
-    most: usize,
-) -> usize
-    ensures { CountsRuns set storage.now start end value most result }
-{
-    let mut runs = 0;
-    let mut from = start;
-    while runs < most {
-        let at = find(set, storage, from, end, !value);
-        if at >= end {
-            return runs;
+    // How many there are, counted up to `most`.
+    fn count_up_to(self, most: usize) -> usize
+        ensures { CountsRuns self.entry.set self.entry.storage.now self.entry.from self.entry.end self.entry.value most result }
+    {
+        let mut runs = self;
+        for n in 0..most {
+            if runs.next().is_none() {
+                return n;
+            }
         }
-        from = find(set, storage, at, end, value);
-        runs += 1;
-    }
-    runs
-}
-
-fn place_or(found: Found, end: usize) -> usize
-    ensures { result ≡ found_in found end }
-{
-    match found {
-        Found::At(i) => i,
-        Found::Nothing => end,
-        Found::Refused(_) => end,
+        most
     }
 }

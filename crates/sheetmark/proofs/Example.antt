@@ -5,7 +5,7 @@ use Rattle.positions.specs.Runs.{runs_from, runs, changed_runs}
 use Rattle.range_bitset.specs.Layout.{allowed}
 use Rattle.range_bitset.specs.Answers.{allowed_capacity}
 use Rattle.ledger.specs.Machine.{set_of, population, need_of, standing_call, used, range_verdict, step}
-use Rattle.command_lines.specs.Lines.{fields, is_number}
+use Rattle.command_lines.specs.Lines.{fields}
 use Rattle.command_lines.specs.Answers.{digits_within, digits}
 use Rattle.command_lines.specs.Input.{lines_from}
 use Rattle.sheetmark.specs.Program.{output_for}
@@ -46,5 +46,5 @@ output =
     114 ∷ 101 ∷ 102 ∷ 117 ∷ 115 ∷ 101 ∷ 100 ∷ 32 ∷ 53 ∷ 10 ∷ []
 
 pub example : output_for input ≡ output
-unfolding lines_from fields is_number digits_within digits allowed_capacity allowed ones assigned total sum_over count_from count first_from first changed_count runs_from runs changed_runs set_of population need_of standing_call used range_verdict step
+unfolding lines_from fields digits_within digits allowed_capacity allowed ones assigned total sum_over count_from count first_from first changed_count runs_from runs changed_runs set_of population need_of standing_call used range_verdict step
 example = refl

@@ -1,5 +1,5 @@
 -- A run of the program is the plain program's: one command, lines, the parts of an input. Assumes nothing.
-use Rattle.sheetmark.proofs.Kit.{◌≡◌, refl, sym, ap, ◌∙◌, subst, ap₂, Bool, true, false, ◌&&◌, cond, List, [], ◌∷◌, ◌++◌, append_assoc, append-nil, ℕ, ◌+◌, ◌-◌, ◌/◌, ◌%◌, ◌^◌, ◌≤◌, ◌<◌, arith, eqb, leb, length, length-append, le-leb, leb-true}
+use Rattle.sheetmark.proofs.Kit.{◌≡◌, refl, sym, ap, ◌∙◌, subst, ap₂, Bool, true, false, ◌&&◌, cond, Option, Some, None, Ok, Err, List, [], ◌∷◌, ◌++◌, append_assoc, append-nil, ℕ, ◌+◌, ◌-◌, ◌/◌, ◌%◌, ◌^◌, ◌≤◌, ◌<◌, arith, eqb, leb, length, length-append, le-leb, leb-true}
 use Rattle.positions.specs.Positions.{Positions, count, first}
 use Rattle.positions.proofs.Bools.{and_left, and_right}
 use Rattle.range_bitset.specs.Layout.{allowed, needed}
@@ -9,7 +9,7 @@ use Rattle.ledger.specs.Machine.{Machine, fresh, set_of, Call, range, back, wipe
 use Rattle.ledger.specs.Memory.{Memory, memory, lent_enough, Holds}
 use Rattle.ledger.specs.declared.Ledger.{Ledger}
 use Rattle.ledger.specs.Entries.{new_head, new_of}
-use Rattle.ledger.specs.declared.Opened.TheVariants as opened
+use Rattle.answers.specs.declared.Refusal.TheVariants.{Size, Short}
 use Rattle.range_bitset.proofs.AcceptedHeads.{allowed_bounds}
 use Rattle.ledger.proofs.Histories.{holds_fresh, accepted}
 use Rattle.command_lines.specs.declared.Command.{Command}
@@ -17,11 +17,11 @@ use Rattle.command_lines.specs.declared.Command.TheVariants as command
 use Rattle.command_lines.specs.declared.Answer.{Answer}
 use Rattle.command_lines.specs.declared.Answer.TheVariants as answer
 use Rattle.command_lines.specs.Lines.{meaning}
-use Rattle.command_lines.specs.Input.{lines, lines_from, unended, Buffered}
+use Rattle.command_lines.specs.Input.{lines, lines_from, unended}
 use Rattle.command_lines.proofs.Buffers.{holds_none}
 use Rattle.sheetmark.specs.Performing.{IsBad, Starts, Calls, Asks, Seeks, Performs}
 use Rattle.command_lines.specs.Answers.{answer_of, low32}
-use Rattle.sheetmark.specs.Answering.{State, AnswersLine, Serves, none, line, texts, ReadAnswered}
+use Rattle.sheetmark.specs.Answering.{State, AnswersLine, Serves, none, line, texts, Kept, ReadAnswered}
 use Rattle.sheetmark.specs.Program.{Present, no_ledger, with_machine, Response, started, called, asked, respond, responses, present_after, Follows, Lent, Reading, part, Run, end, joined, output_for, Answered, RunsAsPlain, AnswersAtOnce, Served, ended, too_long}
 use Rattle.sheetmark.specs.Program as program
 use Rattle.sheetmark.proofs.Answering.{texts_append}
@@ -51,13 +51,13 @@ unfolding new_of
 started_as p capacity j live live' x y a f e q = go (allowed_capacity capacity && leb j 16384) refl q
   where
     go : (b : Bool) → (allowed_capacity capacity && leb j 16384) ≡ b
-        → Starts (cond b (cond (lent_enough (capacity / 64) j (length x.storage) (length x.journal)) (opened.Head (new_head (capacity / 64) j false)) (opened.Refused 3)) (opened.Refused 1)) live x a live' y
+        → Starts (cond b (cond (lent_enough (capacity / 64) j (length x.storage) (length x.journal)) (Ok (new_head (capacity / 64) j false)) (Err Short)) (Err Size)) live x a live' y
         → Comes (cond b (record { answer = answer.Number 0; next = with_machine (fresh capacity j) }) (record { answer = answer.Refused 1; next = p })) a live' y
     go false d s = (s.0, follows_same p live live' x y s.1 s.2 f)
     go true d s =
         let l = enough_lent capacity j (length x.storage) (length x.journal) d e.storage e.journal in
-        let r : Starts (opened.Head (new_head (capacity / 64) j false)) live x a live' y =
-        subst (λ (b : Bool). Starts (cond b (opened.Head (new_head (capacity / 64) j false)) (opened.Refused 3)) live x a live' y) l s in
+        let r : Starts (Ok (new_head (capacity / 64) j false)) live x a live' y =
+        subst (λ (b : Bool). Starts (cond b (Ok (new_head (capacity / 64) j false)) (Err Short)) live x a live' y) l s in
         (r.0, (r.1, subst (λ (z : Memory). Holds z (fresh capacity j)) (sym r.2) (holds_fresh capacity j x.storage x.journal d l)))
 
 -- the calls and questions of the present ledger
@@ -93,31 +93,31 @@ module _ (live live' : Bool) (x y : Memory) (a : Answer) where
   before k = (k.bad, k.same_live)
 
   -- Performs, where `live` is known
-  known : (c : Command) (b : Bool) → live ≡ b → Performs c live x a live' y → Performs c b x a live' y
+  known : (c : Option Command) (b : Bool) → live ≡ b → Performs c live x a live' y → Performs c b x a live' y
   known c b e q = subst (λ (l : Bool). Performs c l x a live' y) e q
 
-  pub performs_follows : (c : Command) (p : Present) → Follows p live x → Lent x → Performs c live x a live' y → Comes (respond c p) a live' y
-  performs_follows (command.New capacity j) p f e q = started_as p capacity j live live' x y a f e q
-  performs_follows (command.Mark s t) no_ledger f e q = before (known (command.Mark s t) false f q)
-  performs_follows (command.Mark s t) (with_machine m) f e q = calls_as m x y a live' f.1 (range s t true) (known (command.Mark s t) true f.0 q)
-  performs_follows (command.Clear s t) no_ledger f e q = before (known (command.Clear s t) false f q)
-  performs_follows (command.Clear s t) (with_machine m) f e q = calls_as m x y a live' f.1 (range s t false) (known (command.Clear s t) true f.0 q)
-  performs_follows (command.Count s t) no_ledger f e q = before (known (command.Count s t) false f q)
-  performs_follows (command.Count s t) (with_machine m) f e q =
-      asks_as m x y a live' f.1 t (λ (o : Positions). number (count o s t)) (known (command.Count s t) true f.0 q)
-  performs_follows (command.One s t) no_ledger f e q = before (known (command.One s t) false f q)
-  performs_follows (command.One s t) (with_machine m) f e q =
-      seeks_as m x y a live' f.1 t (λ (o : Positions). of_place (first o true s t)) (known (command.One s t) true f.0 q)
-  performs_follows (command.Zero s t) no_ledger f e q = before (known (command.Zero s t) false f q)
-  performs_follows (command.Zero s t) (with_machine m) f e q =
-      seeks_as m x y a live' f.1 t (λ (o : Positions). of_place (first o false s t)) (known (command.Zero s t) true f.0 q)
-  performs_follows command.Back no_ledger f e q = before (known command.Back false f q)
-  performs_follows command.Back (with_machine m) f e q = calls_as m x y a live' f.1 back (known command.Back true f.0 q)
-  performs_follows command.Wipe no_ledger f e q = before (known command.Wipe false f q)
-  performs_follows command.Wipe (with_machine m) f e q = calls_as m x y a live' f.1 wipe (known command.Wipe true f.0 q)
-  performs_follows command.Bad no_ledger f e q = before (known command.Bad false f q)
-  performs_follows command.Bad (with_machine m) f e q =
-      let k = known command.Bad true f.0 q in
+  pub performs_follows : (c : Option Command) (p : Present) → Follows p live x → Lent x → Performs c live x a live' y → Comes (respond c p) a live' y
+  performs_follows (Some (command.New capacity j)) p f e q = started_as p capacity j live live' x y a f e q
+  performs_follows (Some (command.Mark s t)) no_ledger f e q = before (known (Some (command.Mark s t)) false f q)
+  performs_follows (Some (command.Mark s t)) (with_machine m) f e q = calls_as m x y a live' f.1 (range s t true) (known (Some (command.Mark s t)) true f.0 q)
+  performs_follows (Some (command.Clear s t)) no_ledger f e q = before (known (Some (command.Clear s t)) false f q)
+  performs_follows (Some (command.Clear s t)) (with_machine m) f e q = calls_as m x y a live' f.1 (range s t false) (known (Some (command.Clear s t)) true f.0 q)
+  performs_follows (Some (command.Count s t)) no_ledger f e q = before (known (Some (command.Count s t)) false f q)
+  performs_follows (Some (command.Count s t)) (with_machine m) f e q =
+      asks_as m x y a live' f.1 t (λ (o : Positions). number (count o s t)) (known (Some (command.Count s t)) true f.0 q)
+  performs_follows (Some (command.One s t)) no_ledger f e q = before (known (Some (command.One s t)) false f q)
+  performs_follows (Some (command.One s t)) (with_machine m) f e q =
+      seeks_as m x y a live' f.1 t (λ (o : Positions). of_place (first o true s t)) (known (Some (command.One s t)) true f.0 q)
+  performs_follows (Some (command.Zero s t)) no_ledger f e q = before (known (Some (command.Zero s t)) false f q)
+  performs_follows (Some (command.Zero s t)) (with_machine m) f e q =
+      seeks_as m x y a live' f.1 t (λ (o : Positions). of_place (first o false s t)) (known (Some (command.Zero s t)) true f.0 q)
+  performs_follows (Some command.Back) no_ledger f e q = before (known (Some command.Back) false f q)
+  performs_follows (Some command.Back) (with_machine m) f e q = calls_as m x y a live' f.1 back (known (Some command.Back) true f.0 q)
+  performs_follows (Some command.Wipe) no_ledger f e q = before (known (Some command.Wipe) false f q)
+  performs_follows (Some command.Wipe) (with_machine m) f e q = calls_as m x y a live' f.1 wipe (known (Some command.Wipe) true f.0 q)
+  performs_follows None no_ledger f e q = before (known None false f q)
+  performs_follows None (with_machine m) f e q =
+      let k = known None true f.0 q in
       (k.bad, (k.same_live, subst (λ (z : Memory). Holds z m) (sym k.same) f.1))
 
 -- ---- lines
@@ -206,21 +206,21 @@ joined_longer : (n : ℕ) (parts : List (List ℕ)) (text : List ℕ) → n ≤ 
 joined_longer n parts text h some = omega (arith, ap length (joined_more parts text), length-append (joined parts) text)
 
 -- n parts, each a byte at least, are read and answered; the line buffer has what is left of a line
-pub record ReadSoFar (s t : State) (n kept : ℕ) (buffer : List ℕ) : Type 0 where
+pub record ReadSoFar (s t : State) (n : ℕ) (held : List ℕ) : Type 0 where
   pub parts : List (List ℕ)
   pub outs : List (List ℕ)
   pub rest : List ℕ
   pub reading : Reading s parts outs t rest
   pub long : n ≤ length (joined parts)
-  pub holds : Buffered buffer kept rest
+  pub holds : Kept held rest
 
-pub read_none : (s : State) (kept : ℕ) (buffer : List ℕ) → kept ≡ 0 → ReadSoFar s s 0 kept buffer
-read_none s kept buffer z =
-    record { parts = []; outs = []; rest = []; reading = program.none; long = omega arith; holds = rw z (holds_none buffer) }
+pub read_none : (s : State) (held : List ℕ) → held ≡ [] → ReadSoFar s s 0 held
+read_none s held z =
+    record { parts = []; outs = []; rest = []; reading = program.none; long = omega arith; holds = rw z (holds_none 32) }
 
-module _ (s t u : State) (n kept : ℕ) (buffer text out : List ℕ) (kept' : ℕ) (buffer' : List ℕ) (f : ReadSoFar s t n kept buffer)
-    (a : (l : List ℕ) → Buffered buffer kept l → ReadAnswered text l t u out kept' buffer') where
-  pub read_more : 0 < length text → ReadSoFar s u (n + 1) kept' buffer'
+module _ (s t u : State) (n : ℕ) (held text out held' : List ℕ) (f : ReadSoFar s t n held)
+    (a : (l : List ℕ) → Kept held l → ReadAnswered text l t u out held') where
+  pub read_more : 0 < length text → ReadSoFar s u (n + 1) held'
   read_more some =
       let p = (a f.rest f.holds).some some in
       record {
@@ -235,12 +235,12 @@ module _ (s t u : State) (n kept : ℕ) (buffer text out : List ℕ) (kept' : �
   pub read_end : length text ≡ 0 → Run s f.parts (f.outs ++ (out ∷ [])) u
   read_end z = end f.reading ((a f.rest f.holds).nothing z)
 
--- ---- what `serve` has done, where v is the first session's `live`
+-- ---- what `serve` has done, where v is whether there is a ledger at first
 
 module _ (h : Ledger) (v : Bool) (st j : List ℕ) (z : v ≡ false) where
   pub served_whole : (t : State) (parts outs : List (List ℕ)) → Run (record { live = v; ledger = memory h st j }) parts outs t → Served st j t
   served_whole t parts outs r = ended (rw z at r)
 
-  pub served_part : (t : State) (n kept : ℕ) (buffer : List ℕ) → 2 ^ 64 - 1 ≤ n → ReadSoFar (record { live = v; ledger = memory h st j }) t n kept buffer
+  pub served_part : (t : State) (n : ℕ) (held : List ℕ) → 2 ^ 64 - 1 ≤ n → ReadSoFar (record { live = v; ledger = memory h st j }) t n held
       → Served st j t
-  served_part t n kept buffer m f = too_long (rw z at f.reading) (omega (arith, f.long))
+  served_part t n held m f = too_long (rw z at f.reading) (omega (arith, f.long))

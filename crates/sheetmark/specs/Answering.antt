@@ -1,21 +1,21 @@
 -- What answering lines promises: each line's command performed in turn, and the answers' text in the output; for a part of the
 -- input, for the input's end, and for what a read gave. Assumes nothing.
-use Rattle.std.specs.Prelude.{◌≡◌, Bool, List, [], ◌∷◌, ◌++◌, ℕ, ◌<◌, length}
-use Rattle.ledger.specs.Memory.{Memory, memory}
+use Rattle.std.specs.Prelude.{◌≡◌, Bool, Option, is_some, List, [], ◌∷◌, ◌++◌, ℕ, ◌<◌, length}
+use Rattle.ledger.specs.Memory.{Memory}
 use Rattle.command_lines.specs.declared.Answer.{Answer}
 use Rattle.command_lines.specs.Lines.{meaning}
 use Rattle.command_lines.specs.Answers.{printed}
 use Rattle.command_lines.specs.Input.{unended, lines_from, Buffered}
-use Rattle.sheetmark.specs.declared.Session.{Session}
-use Rattle.sheetmark.specs.Performing.{Performs}
+use Rattle.ledger.specs.declared.Ledger.{Ledger}
+use Rattle.sheetmark.specs.Performing.{Performs, memory_of}
 
 -- whether there is a ledger, and its memory
 pub record State : Type 0 where
   pub live : Bool
   pub ledger : Memory
 
-abbrev pub state : Session → List ℕ → List ℕ → State
-state s st j = record { live = s.live; ledger = memory s.head st j }
+abbrev pub state : Option Ledger → List ℕ → List ℕ → State
+state o st j = record { live = is_some o; ledger = memory_of o st j }
 
 -- ---- lines
 
@@ -36,7 +36,7 @@ abbrev pub texts : List Answer → List ℕ
 texts [] = []
 texts (a ∷ rs) = printed a ++ texts rs
 
--- ---- parts of the input. `out` is what stands in the output afterwards: the bytes up to where it is filled
+-- ---- parts of the input. `out` is what stands in the output afterwards
 
 -- a part, where the bytes l of a line came before it: the lines that end in the part are answered, and the bytes `rest` of an
 -- unfinished one are left. `cut` says which these are, whatever more is to come
@@ -53,14 +53,17 @@ pub record End (l : List ℕ) (s t : State) (out : List ℕ) : Type 0 where
   pub serves : Serves s (unended l) answers t
   pub output : out ≡ texts answers
 
--- ---- the same where a line buffer, filled up to `kept`, holds the bytes of the line
+-- ---- the same where the line buffer, of 32 bytes, holds the bytes of the line
 
-pub record PartAnswered (text l : List ℕ) (s t : State) (out : List ℕ) (kept : ℕ) (buffer : List ℕ) : Type 0 where
+abbrev pub Kept : List ℕ → List ℕ → Type 0
+Kept held l = Buffered 32 held l
+
+pub record PartAnswered (text l : List ℕ) (s t : State) (out held : List ℕ) : Type 0 where
   pub rest : List ℕ
   pub part : Part text l s t out rest
-  pub holds : Buffered buffer kept rest
+  pub holds : Kept held rest
 
 -- what a read gave: a part of the input or, where it gave nothing, the input's end
-pub record ReadAnswered (text l : List ℕ) (s t : State) (out : List ℕ) (kept : ℕ) (buffer : List ℕ) : Type 0 where
-  pub some : 0 < length text → PartAnswered text l s t out kept buffer
+pub record ReadAnswered (text l : List ℕ) (s t : State) (out held : List ℕ) : Type 0 where
+  pub some : 0 < length text → PartAnswered text l s t out held
   pub nothing : length text ≡ 0 → End l s t out

@@ -1,6 +1,6 @@
 -- What performing a command promises: there is a reply of which the ledger's or the set's own promise holds, and its answer is
 -- printed. Assumes nothing.
-use Rattle.std.specs.Prelude.{◌≡◌, Bool, true, false, List, ℕ, length}
+use Rattle.std.specs.Prelude.{◌≡◌, Bool, true, false, Option, Some, None, is_some, Result, Ok, Err, List, ℕ, length}
 use Rattle.positions.specs.Positions.{Positions, count, first}
 use Rattle.range_bitset.specs.Represents.{Represents}
 use Rattle.positions.specs.Replies.{Reply, number, of_place}
@@ -9,8 +9,9 @@ use Rattle.range_bitset.specs.Entries.{Answers}
 use Rattle.ledger.specs.Machine.{Call, range, back, wipe}
 use Rattle.ledger.specs.Memory.{Memory, memory}
 use Rattle.ledger.specs.Entries.{CallEnsures, new_of}
-use Rattle.ledger.specs.declared.Opened.{Opened}
-use Rattle.ledger.specs.declared.Opened.TheVariants as opened
+use Rattle.ledger.specs.declared.Ledger.{Ledger}
+use Rattle.answers.specs.Refusals.{number_of}
+use Rattle.answers.specs.declared.Refusal.{Refusal}
 use Rattle.command_lines.specs.Answers.{answer_of, low32}
 use Rattle.command_lines.specs.declared.Command.{Command}
 use Rattle.command_lines.specs.declared.Command.TheVariants as command
@@ -25,10 +26,9 @@ pub record IsBad (live : Bool) (x : Memory) (a : Answer) (live' : Bool) (y : Mem
   pub same : y ≡ x
 
 -- `new`: 0 and a fresh ledger, also later in the input; a refused one keeps the present ledger
-abbrev pub Starts : Opened → Bool → Memory → Answer → Bool → Memory → Type 0
-Starts (opened.Head h) live x a live' y = (a ≡ answer.Number 0) × (live' ≡ true) × (y ≡ memory h x.storage x.journal)
-Starts (opened.Refused k) live x a live' y = (a ≡ answer.Refused k) × (live' ≡ live) × (y ≡ x)
-Starts (opened.BadRun i) live x a live' y = (a ≡ answer.Refused 8) × (live' ≡ live) × (y ≡ x)
+abbrev pub Starts : Result Ledger Refusal → Bool → Memory → Answer → Bool → Memory → Type 0
+Starts (Ok h) live x a live' y = (a ≡ answer.Number 0) × (live' ≡ true) × (y ≡ memory h x.storage x.journal)
+Starts (Err k) live x a live' y = (a ≡ answer.Refused (number_of k)) × (live' ≡ live) × (y ≡ x)
 
 -- a call of the present ledger
 pub record Calls (c : Call) (x : Memory) (a : Answer) (live' : Bool) (y : Memory) : Type 0 where
@@ -54,29 +54,33 @@ pub record Seeks (k : ℕ) (x : Memory) (f : Positions → Reply) (a : Answer) (
   pub told : a ≡ answer_of (low32 reply)
   pub whole : k ≡ 0 → (s : Positions) → Represents x.head.set x.storage s → a ≡ answer_of (f s)
 
--- before an accepted `new`, every other command is a bad line
-abbrev pub Performs : Command → Bool → Memory → Answer → Bool → Memory → Type 0
-Performs (command.New capacity j) live x a live' y = Starts (new_of capacity j (length x.storage) (length x.journal)) live x a live' y
-Performs (command.Mark s e) true x a live' y = Calls (range s e true) x a live' y
-Performs (command.Clear s e) true x a live' y = Calls (range s e false) x a live' y
-Performs (command.Count s e) true x a live' y =
+-- before an accepted `new`, every other command is a bad line, as is a line that is no command
+abbrev pub Performs : Option Command → Bool → Memory → Answer → Bool → Memory → Type 0
+Performs (Some (command.New capacity j)) live x a live' y = Starts (new_of capacity j (length x.storage) (length x.journal)) live x a live' y
+Performs (Some (command.Mark s e)) true x a live' y = Calls (range s e true) x a live' y
+Performs (Some (command.Clear s e)) true x a live' y = Calls (range s e false) x a live' y
+Performs (Some (command.Count s e)) true x a live' y =
     Asks (range_refusal x.head.set (length x.storage) e) x (λ p. number (count p s e)) a live' y
-Performs (command.One s e) true x a live' y =
+Performs (Some (command.One s e)) true x a live' y =
     Seeks (range_refusal x.head.set (length x.storage) e) x (λ p. of_place (first p true s e)) a live' y
-Performs (command.Zero s e) true x a live' y =
+Performs (Some (command.Zero s e)) true x a live' y =
     Seeks (range_refusal x.head.set (length x.storage) e) x (λ p. of_place (first p false s e)) a live' y
-Performs command.Back true x a live' y = Calls back x a live' y
-Performs command.Wipe true x a live' y = Calls wipe x a live' y
-Performs command.Bad true x a live' y = IsBad true x a live' y
-Performs (command.Mark s e) false x a live' y = IsBad false x a live' y
-Performs (command.Clear s e) false x a live' y = IsBad false x a live' y
-Performs (command.Count s e) false x a live' y = IsBad false x a live' y
-Performs (command.One s e) false x a live' y = IsBad false x a live' y
-Performs (command.Zero s e) false x a live' y = IsBad false x a live' y
-Performs command.Back false x a live' y = IsBad false x a live' y
-Performs command.Wipe false x a live' y = IsBad false x a live' y
-Performs command.Bad false x a live' y = IsBad false x a live' y
+Performs (Some command.Back) true x a live' y = Calls back x a live' y
+Performs (Some command.Wipe) true x a live' y = Calls wipe x a live' y
+Performs (Some (command.Mark s e)) false x a live' y = IsBad false x a live' y
+Performs (Some (command.Clear s e)) false x a live' y = IsBad false x a live' y
+Performs (Some (command.Count s e)) false x a live' y = IsBad false x a live' y
+Performs (Some (command.One s e)) false x a live' y = IsBad false x a live' y
+Performs (Some (command.Zero s e)) false x a live' y = IsBad false x a live' y
+Performs (Some command.Back) false x a live' y = IsBad false x a live' y
+Performs (Some command.Wipe) false x a live' y = IsBad false x a live' y
+Performs None live x a live' y = IsBad live x a live' y
 
--- the same of what a command leaves, together with the lent storage st and journal j
-abbrev pub Leaves : Command → Bool → Memory → Performed → List ℕ → List ℕ → Type 0
-Leaves c live x r st j = Performs c live x r.answer r.live (memory r.head st j)
+-- the memory of a ledger, where there is one; before there is, its head is of zeros
+abbrev pub memory_of : Option Ledger → List ℕ → List ℕ → Memory
+memory_of (Some h) st j = memory h st j
+memory_of None st j = memory (record { set = record { words = 0; len = 0; allocated = false }; journal = 0; used = 0 }) st j
+
+-- the same of what a command leaves, together with the lent storage and journal, before and after
+abbrev pub Leaves : Option Command → Option Ledger → List ℕ → List ℕ → Performed → List ℕ → List ℕ → Type 0
+Leaves c o st j r st' j' = Performs c (is_some o) (memory_of o st j) r.answer (is_some r.ledger) (memory_of r.ledger st' j')

@@ -1,6 +1,6 @@
 -- 01's `sheetmark`, plainly: what is printed for an input, by the ledger's plain machine alone; and when a run of the program
 -- follows it. Assumes nothing.
-use Rattle.std.specs.Prelude.{◌≡◌, Bool, true, false, ◌&&◌, cond, List, [], ◌∷◌, ◌++◌, ℕ, ◌-◌, ◌^◌, ◌≤◌, ◌<◌, leb, length}
+use Rattle.std.specs.Prelude.{◌≡◌, Bool, true, false, ◌&&◌, cond, Option, Some, None, List, [], ◌∷◌, ◌++◌, ℕ, ◌-◌, ◌^◌, ◌≤◌, ◌<◌, leb, length}
 use Rattle.positions.specs.Positions.{count, first}
 use Rattle.positions.specs.Replies.{Reply, number, refusal, of_place}
 use Rattle.range_bitset.specs.Answers.{allowed_capacity}
@@ -46,16 +46,16 @@ abbrev pub of_present : Present → (Machine → Response) → Response
 of_present no_ledger f = record { answer = answer.BadLine; next = no_ledger }
 of_present (with_machine m) f = f m
 
-abbrev pub respond : Command → Present → Response
-respond (command.New capacity j) p = started p capacity j
-respond (command.Mark s e) p = of_present p (called (range s e true))
-respond (command.Clear s e) p = of_present p (called (range s e false))
-respond (command.Count s e) p = of_present p (λ m. asked e (number (count (set_of m) s e)) m)
-respond (command.One s e) p = of_present p (λ m. asked e (of_place (first (set_of m) true s e)) m)
-respond (command.Zero s e) p = of_present p (λ m. asked e (of_place (first (set_of m) false s e)) m)
-respond command.Back p = of_present p (called back)
-respond command.Wipe p = of_present p (called wipe)
-respond command.Bad p = record { answer = answer.BadLine; next = p }
+abbrev pub respond : Option Command → Present → Response
+respond (Some (command.New capacity j)) p = started p capacity j
+respond (Some (command.Mark s e)) p = of_present p (called (range s e true))
+respond (Some (command.Clear s e)) p = of_present p (called (range s e false))
+respond (Some (command.Count s e)) p = of_present p (λ m. asked e (number (count (set_of m) s e)) m)
+respond (Some (command.One s e)) p = of_present p (λ m. asked e (of_place (first (set_of m) true s e)) m)
+respond (Some (command.Zero s e)) p = of_present p (λ m. asked e (of_place (first (set_of m) false s e)) m)
+respond (Some command.Back) p = of_present p (called back)
+respond (Some command.Wipe) p = of_present p (called wipe)
+respond None p = record { answer = answer.BadLine; next = p }
 
 -- the answers to a list of lines, in their order, and the present ledger after them
 abbrev pub responses : Present → List (List ℕ) → List Answer

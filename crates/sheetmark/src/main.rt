@@ -3,70 +3,63 @@
 // largest set's storage and the longest journal. Assumes that std's read and write do what they say.
 #![tactic(auto)]
 
-ghost use Rattle.std.specs.Prelude.{◌≡◌, true, false, List, ℕ, ◌+◌, ◌*◌, ◌≤◌, ◌<◌, length, take, replicate};
-ghost use Rattle.range_bitset.specs.Answers.{of_counted};
-ghost use Rattle.ledger.specs.Memory.{memory};
+ghost use Rattle.std.specs.Prelude.{◌≡◌, true, false, List, [], ℕ, ◌+◌, ◌≤◌, length};
+ghost use Rattle.answers.specs.Refusals.{head_after};
+ghost use Rattle.ledger.specs.Entries.{of_called};
 ghost use Rattle.sheetmark.specs.Performing.{Leaves};
 ghost use Rattle.command_lines.specs.Answers.{answer_of};
-ghost use Rattle.sheetmark.specs.Answering.{state, PartAnswered, End, ReadAnswered};
+ghost use Rattle.sheetmark.specs.Answering.{state, Kept, PartAnswered, End, ReadAnswered};
 ghost use Rattle.sheetmark.specs.Program.{Served};
 ghost use Rattle.sheetmark.specs.Inner.{LineAnswered};
 ghost use Rattle.command_lines.specs.declared.Command.TheVariants.{New};
-ghost use Rattle.command_lines.specs.Input.{Buffered};
 
+use answers::{Changed, Refusal};
+use arrayvec::ArrayVec;
 use command_lines::{Answer, Command};
-use ledger::{Called, Ledger, Opened};
-use range_bitset::RangeBitset;
-use say::{of_counted, of_found};
+use ledger::Ledger;
 use std::io::{Read, Write};
 
-// What a command leaves: what is printed, the ledger's head, and whether there is a ledger.
-#[derive(Clone, Copy)]
+// What a command leaves: what is printed, and the ledger, where there is one.
+#[derive(Clone, Copy, Debug, PartialEq, Eq)]
 pub struct Performed {
     pub answer: Answer,
-    pub head: Ledger,
-    pub live: bool,
+    pub ledger: Option<Ledger>,
 }
 
-// What a call of the ledger leaves.
-fn of_called(done: Called) -> Performed
-    ensures { (result.answer ≡ answer_of (of_counted done.answer)) × (result.head ≡ done.head) × (result.live ≡ true) }
+// What a call of a ledger leaves: a refused one leaves the ledger as it was.
+fn of_call(head: Ledger, done: Result<Changed<u32, Ledger>, Refusal>) -> Performed
+    ensures { (result.answer ≡ answer_of (of_called done)) × (result.ledger ≡ Some (head_after head done)) }
 {
-    let answer = done.answer;
-    let head = done.head;
-    Performed {
-        answer: of_counted(answer),
-        head,
-        live: true,
+    match done {
+        Ok(changed) => Performed {
+            answer: Answer::Number(changed.answer),
+            ledger: Some(changed.head),
+        },
+        Err(refusal) => Performed {
+            answer: Answer::Refused(refusal.into()),
+            ledger: Some(head),
+        },
     }
 }
 
 // `new`: a fresh ledger, or the present one kept.
 fn new_ledger(
-    head: Ledger,
-    live: bool,
+    ledger: Option<Ledger>,
     storage: &[u64],
     journal: &[u32],
     capacity: u32,
     limit: u32,
 ) -> Performed
-    ensures { Leaves (New capacity limit) live (memory head storage.now journal.now) result storage.now journal.now }
+    ensures { Leaves (Some (New capacity limit)) ledger storage.now journal.now result storage.now journal.now }
 {
     match Ledger::new(capacity as usize, limit as usize, storage, journal) {
-        Opened::Head(fresh) => Performed {
+        Ok(fresh) => Performed {
             answer: Answer::Number(0),
-            head: fresh,
-            live: true,
+            ledger: Some(fresh),
         },
-        Opened::Refused(k) => Performed {
-            answer: Answer::Refused(k),
-            head,
-            live,
-        },
-        Opened::BadRun(_) => Performed {
-            answer: Answer::Refused(8),
-            head,
-            live,
+        Err(refusal) => Performed {
+            answer: Answer::Refused(refusal.into()),
+            ledger,
         },
     }
 }
@@ -78,199 +71,146 @@ fn perform_live(
     journal: &mut [u32],
     command: Command,
 ) -> Performed
-    ensures { Leaves command true (memory head storage.old journal.old) result storage.new journal.new }
+    ensures { Leaves (Some command) (Some head) storage.old journal.old result storage.new journal.new }
 {
     let set = head.set;
+    let ledger = Some(head);
     match command {
-        Command::New(capacity, limit) => new_ledger(head, true, storage, journal, capacity, limit),
-        Command::Mark(a, e) => of_called(head.mark(storage, journal, a as usize, e as usize)),
-        Command::Clear(a, e) => of_called(head.clear(storage, journal, a as usize, e as usize)),
+        Command::New(capacity, limit) => new_ledger(ledger, storage, journal, capacity, limit),
+        Command::Mark(a, e) => of_call(head, head.mark(storage, journal, a as usize, e as usize)),
+        Command::Clear(a, e) => of_call(head, head.clear(storage, journal, a as usize, e as usize)),
         Command::Count(a, e) => Performed {
-            answer: of_counted(set.count(storage, a as usize, e as usize)),
-            head,
-            live: true,
+            answer: Answer::from(set.count(storage, a as usize, e as usize)),
+            ledger,
         },
         Command::One(a, e) => Performed {
-            answer: of_found(set.next_one(storage, a as usize, e as usize)),
-            head,
-            live: true,
+            answer: Answer::from(set.next_one(storage, a as usize, e as usize)),
+            ledger,
         },
         Command::Zero(a, e) => Performed {
-            answer: of_found(set.next_zero(storage, a as usize, e as usize)),
-            head,
-            live: true,
+            answer: Answer::from(set.next_zero(storage, a as usize, e as usize)),
+            ledger,
         },
-        Command::Back => of_called(head.take_back(storage, journal)),
-        Command::Wipe => of_called(head.wipe(storage)),
-        Command::Bad => Performed {
-            answer: Answer::BadLine,
-            head,
-            live: true,
-        },
+        Command::Back => of_call(head, head.take_back(storage, journal)),
+        Command::Wipe => of_call(head, head.wipe(storage)),
     }
 }
 
 // A command before an accepted `new`.
-fn perform_before_new(head: Ledger, storage: &[u64], journal: &[u32], command: Command) -> Performed
-    ensures { Leaves command false (memory head storage.now journal.now) result storage.now journal.now }
+fn perform_before_new(storage: &[u64], journal: &[u32], command: Command) -> Performed
+    ensures { Leaves (Some command) None storage.now journal.now result storage.now journal.now }
 {
     if let Command::New(capacity, limit) = command {
-        return new_ledger(head, false, storage, journal, capacity, limit);
+        return new_ledger(None, storage, journal, capacity, limit);
     }
     Performed {
         answer: Answer::BadLine,
-        head,
-        live: false,
+        ledger: None,
     }
 }
 
-// A command to the present ledger, or before there is one.
+// A line's command to the present ledger, or before there is one; None is a bad line.
 fn perform(
-    head: Ledger,
-    live: bool,
+    ledger: Option<Ledger>,
     storage: &mut [u64],
     journal: &mut [u32],
-    command: Command,
+    command: Option<Command>,
 ) -> Performed
-    ensures { Leaves command live (memory head storage.old journal.old) result storage.new journal.new }
+    ensures { Leaves command ledger storage.old journal.old result storage.new journal.new }
 {
-    if live {
-        perform_live(head, storage, journal, command)
-    } else {
-        perform_before_new(head, storage, journal, command)
+    let Some(command) = command else {
+        return Performed {
+            answer: Answer::BadLine,
+            ledger,
+        };
+    };
+    match ledger {
+        Some(head) => perform_live(head, storage, journal, command),
+        None => perform_before_new(storage, journal, command),
     }
 }
 
-// What goes from part to part of the input: how far the line buffer and the output are filled, and the ledger.
-#[derive(Clone, Copy)]
-pub struct Session {
-    pub kept: usize,
-    pub filled: usize,
-    pub head: Ledger,
-    pub live: bool,
-}
+// Room for the bytes of a line.
+type Line = ArrayVec<u8, 32>;
+
+// Room for the answers to any part of the input: 12 bytes for each of the input buffer's 65,536.
+type Output = ArrayVec<u8, 786432>;
 
 // Answers a line, of which `line` is all bytes but the newline.
 fn answer_line(
-    session: Session,
+    ledger: Option<Ledger>,
     line: &[u8],
-    out: &mut [u8],
+    out: &mut Output,
     storage: &mut [u64],
     journal: &mut [u32],
-) -> Session
-    requires { session.filled + 12 ≤ length out.old }
-    ensures line_answered { LineAnswered line.now (state session storage.old journal.old) (state result storage.new journal.new) out.old session.filled out.new result.filled }
-    ensures nothing_kept { result.kept ≡ 0 }
+) -> Option<Ledger>
+    requires { length out.old.items + 12 ≤ 786432 }
+    ensures { LineAnswered line.now (state ledger storage.old journal.old) (state result storage.new journal.new) out.old.items out.new.items }
 {
     let command = command_lines::parse(line);
-    let head = session.head;
-    let done = perform(head, session.live, storage, journal, command);
-    let answer = done.answer;
-    let next = done.head;
-    Session {
-        kept: 0,
-        filled: command_lines::put_answer(out, session.filled, answer),
-        head: next,
-        live: done.live,
-    }
+    let done = perform(ledger, storage, journal, command);
+    command_lines::put_answer(out, done.answer);
+    done.ledger
 }
 
-// Answers the lines that end in a part of the input. The output is filled anew. It has room for all answers: a line has a byte
-// at least, its newline, and an answer at most 12.
+// Answers the lines that end in a part of the input. The output has room for all answers: a line has a byte at least, its
+// newline, and an answer at most 12.
 fn answer_part(
-    session: Session,
+    ledger: Option<Ledger>,
     text: &[u8],
-    line: &mut [u8],
-    out: &mut [u8],
+    line: &mut Line,
+    out: &mut Output,
     storage: &mut [u64],
     journal: &mut [u32],
-) -> Session
-    requires kept_in_line { session.kept ≤ length line.old }
-    requires line_room { 27 < length line.old }
-    requires text_room { 12 * length text.now ≤ length out.old }
-    ensures answered { (l : List ℕ) → Buffered line.old session.kept l → PartAnswered text.now l (state session storage.old journal.old) (state result storage.new journal.new) (take result.filled out.new) result.kept line.new }
-    ensures kept_in_line { result.kept ≤ length line.new }
-    ensures filled_in_output { result.filled ≤ length out.new }
+) -> Option<Ledger>
+    requires empty { out.old.items ≡ [] }
+    requires room { length text.now ≤ 65536 }
+    ensures { (l : List ℕ) → Kept line.old.items l → PartAnswered text.now l (state ledger storage.old journal.old) (state result storage.new journal.new) out.new.items line.new.items }
 {
-    let mut at = 0;
-    let mut current = session;
-    current.filled = 0;
-    while at < text.len() {
-        let found = command_lines::gather(text, at, line, current.kept);
-        at = found.at;
-        let kept = found.kept;
-        current.kept = kept;
-        if found.ended {
-            current = answer_line(current, &line[..kept], out, storage, journal);
-        }
+    let mut current = ledger;
+    let mut rest = text;
+    while let Some(next) = command_lines::gather(rest, line) {
+        current = answer_line(current, line.as_slice(), out, storage, journal);
+        line.clear();
+        rest = next;
     }
     current
 }
 
 // At the input's end: what no newline ended is a line, unless there is nothing. It gets the newline that it lacks.
 fn answer_last_line(
-    session: Session,
-    line: &mut [u8],
-    out: &mut [u8],
+    ledger: Option<Ledger>,
+    line: &mut Line,
+    out: &mut Output,
     storage: &mut [u64],
     journal: &mut [u32],
-) -> Session
-    requires kept_in_line { session.kept ≤ length line.old }
-    requires line_room { 27 < length line.old }
-    requires output_room { 12 ≤ length out.old }
-    ensures answered { (l : List ℕ) → Buffered line.old session.kept l → End l (state session storage.old journal.old) (state result storage.new journal.new) (take result.filled out.new) }
-    ensures kept_in_line { result.kept ≤ length line.new }
-    ensures filled_in_output { result.filled ≤ length out.new }
+) -> Option<Ledger>
+    requires { out.old.items ≡ [] }
+    ensures { (l : List ℕ) → Kept line.old.items l → End l (state ledger storage.old journal.old) (state result storage.new journal.new) out.new.items }
 {
-    if session.kept == 0 {
-        let mut next = session;
-        next.filled = 0;
-        return next;
+    if line.is_empty() {
+        return ledger;
     }
-    answer_part(session, b"\n", line, out, storage, journal)
+    answer_part(ledger, b"\n", line, out, storage, journal)
 }
 
-// Answers what a read gave: a part of the input or, where it gave nothing, the input's end.
+// Answers what a read gave: a part of the input or, where it gave nothing, the input's end. The output is filled anew.
 fn answer_read(
-    session: Session,
+    ledger: Option<Ledger>,
     text: &[u8],
-    line: &mut [u8],
-    out: &mut [u8],
+    line: &mut Line,
+    out: &mut Output,
     storage: &mut [u64],
     journal: &mut [u32],
-) -> Session
-    requires kept_in_line { session.kept ≤ length line.old }
-    requires line_room { 27 < length line.old }
-    requires output_room { 12 ≤ length out.old }
-    requires text_room { 12 * length text.now ≤ length out.old }
-    ensures answered { (l : List ℕ) → Buffered line.old session.kept l → ReadAnswered text.now l (state session storage.old journal.old) (state result storage.new journal.new) (take result.filled out.new) result.kept line.new }
-    ensures kept_in_line { result.kept ≤ length line.new }
-    ensures filled_in_output { result.filled ≤ length out.new }
+) -> Option<Ledger>
+    requires { length text.now ≤ 65536 }
+    ensures { (l : List ℕ) → Kept line.old.items l → ReadAnswered text.now l (state ledger storage.old journal.old) (state result storage.new journal.new) out.new.items line.new.items }
 {
+    out.clear();
     if text.len() == 0 {
-        answer_last_line(session, line, out, storage, journal)
+        answer_last_line(ledger, line, out, storage, journal)
     } else {
-        answer_part(session, text, line, out, storage, journal)
-    }
-}
-
-// Before the first line: no ledger, and nothing kept or put.
-fn begin() -> Session
-    ensures { (result.live ≡ false) × (result.kept ≡ 0) }
-{
-    Session {
-        kept: 0,
-        filled: 0,
-        head: Ledger {
-            set: RangeBitset {
-                words: 0,
-                len: 0,
-                allocated: false,
-            },
-            journal: 0,
-            used: 0,
-        },
-        live: false,
+        answer_part(ledger, text, line, out, storage, journal)
     }
 }
 
@@ -287,31 +227,28 @@ fn serve(
     input: &mut impl Read,
     output: &mut impl Write,
     buffer: &mut [u8],
-    line: &mut [u8],
-    out: &mut [u8],
+    out: &mut Output,
     storage: &mut [u64],
     journal: &mut [u32],
-) -> Session
-    requires line_room { 27 < length line.old }
-    requires output_room { 12 ≤ length out.old }
-    requires buffer_room { 12 * length buffer.old ≤ length out.old }
+) -> Option<Ledger>
+    requires buffer_room { length buffer.old ≤ 65536 }
     requires storage_room { 4290 ≤ length storage.old }
     requires journal_room { 16384 ≤ length journal.old }
     ensures { Served storage.old journal.old (state result storage.new journal.new) }
 {
-    let mut session = begin();
+    let mut ledger = None;
+    let mut line = Line::new();
     let mut reads = 0u64;
     while reads < u64::MAX {
         let n = read_part(input, buffer);
-        session = answer_read(session, &buffer[..n], line, out, storage, journal);
-        let filled = session.filled;
-        let _ = output.write_all(&out[..filled]);
+        ledger = answer_read(ledger, &buffer[..n], &mut line, out, storage, journal);
+        let _ = output.write_all(out.as_slice());
         if n == 0 {
-            return session;
+            return ledger;
         }
         reads += 1;
     }
-    session
+    ledger
 }
 
 // Room for a part of the input.
@@ -321,24 +258,15 @@ fn input_buffer() -> [u8; 65536]
     [0; 65536]
 }
 
-// Room for the answers to any part of the input: 12 bytes for each of the input buffer's 65,536.
-fn output_buffer() -> [u8; 786432]
-    ensures { result ≡ replicate 786432 0 }
-{
-    [0; 786432]
-}
-
 fn main(rt: HostRuntime) {
     let mut buffer = input_buffer();
-    let mut out = output_buffer();
-    let mut line = [0u8; 32];
+    let mut out = Output::new();
     let mut storage = [0u64; 4290];
     let mut journal = [0u32; 16384];
     serve(
         &mut rt.stdin(),
         &mut rt.stdout(),
         &mut buffer,
-        &mut line,
         &mut out,
         &mut storage,
         &mut journal,

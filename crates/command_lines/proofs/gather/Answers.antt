@@ -1,13 +1,9 @@
--- `command_lines::gather` meets its contract: one law of Gathering for each step and each return. Assumes nothing.
-use Rattle.command_lines.proofs.Gathering.{rest_more, rest_newline, rest_end}
+-- `command_lines::gather` meets its contract, by where the first newline is. Assumes nothing.
+use Rattle.command_lines.proofs.Gathering.{gathers_all, gathers_part}
 use Rattle.command_lines.proofs.gather.Goals as goal
 
-pub returns-then-b-eq10 : goal.returns-then-b-eq10
-returns-then-b-eq10 c = rest_newline c.loop-at.invariant c.loop-at-test.true c.if-b-eq10.true
-
-pub loop-at-preserved : goal.loop-at-preserved
-loop-at-preserved c =
-    rw (← c.keep-n.ensures.kept, ← c.keep-n.ensures.stored) at (rest_more c.loop-at.invariant c.loop-at-test.true c.if-b-eq10.false)
+pub returns-in_default : goal.returns-in_default
+returns-in_default g c = gathers_all c.in_default.ensures c.keep.ensures
 
 pub returns : goal.returns
-returns c = rest_end c.loop-at.invariant c.loop-at-test.false
+returns g c = gathers_part c.in-Some.ensures c.keep-2.ensures

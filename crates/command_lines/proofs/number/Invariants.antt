@@ -1,17 +1,12 @@
--- `command_lines::number`. The invariant: the digits from..at, at most ten, have the value `value`, and with what follows they
--- decide what the field reads. The measure: what is left of the line. Assumes nothing.
-use Rattle.command_lines.proofs.Kit.{◌≡◌, ◌≤◌, ◌<◌, ◌-◌, ◌^◌, length, drop}
-use Rattle.command_lines.specs.Inner.{read_at}
-use Rattle.command_lines.proofs.NumberFields.{ahead}
+-- `command_lines::number`. The invariant: the digits that are read have the value `value`, and what follows goes on from there.
+-- Assumes nothing.
+use Rattle.command_lines.proofs.Kit.{◌≡◌, ◌<◌, ◌^◌, drop}
+use Rattle.command_lines.specs.Lines.{all_digits, value_from, value}
 use Rattle.command_lines.proofs.number.Given as goal
 
-abbrev pub invariant-loop-at : goal.invariant-loop-at
-invariant-loop-at l = record {
-  behind : l.from ≤ l.at;
-  ten : l.at - l.from ≤ 10;
-  below : l.value < 10 ^ (l.at - l.from);
-  decides : ahead l.line l.from l.at l.value ≡ read_at l.from (drop l.from l.line);
+abbrev pub invariant-loop-b : goal.invariant-loop-b
+invariant-loop-b l = record {
+  below : l.value < 10 ^ l.b-index;
+  worth : value_from l.value (drop l.b-index l.field) ≡ value l.field;
+  digits : all_digits (drop l.b-index l.field) ≡ all_digits l.field;
 }
-
-abbrev pub decreases-loop-at : goal.decreases-loop-at
-decreases-loop-at l = length l.line - l.at

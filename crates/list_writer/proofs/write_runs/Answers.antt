@@ -1,19 +1,34 @@
 -- `write_runs` meets its contract, by its loop's invariant. Assumes nothing.
-use Rattle.list_writer.proofs.Kit.{arith}
-use Rattle.set_runs.proofs.RunWalks.{writing_next, writing_done}
-use Rattle.list_writer.proofs.Stores.{stored_run}
+use Rattle.list_writer.proofs.Kit.{arith, refl, ◌≡◌, ◌+◌, ◌*◌}
+use Rattle.set_runs.proofs.RunWalks.{along_next, writing_start, writing_one, writing_last}
+use Rattle.list_writer.proofs.Stores.{stored_run, stored_word}
 use Rattle.list_writer.proofs.write_runs.Goals as goal
 
-pub returns-then-start-capacity : goal.returns-then-start-capacity
-returns-then-start-capacity c =
-    let l = c.loop-runs in
-    rw (← l.invariant.1) (writing_done _ _ _ _ _ _ _ _ _ _ _ _ _ _ c.find-start.ensures (omega arith) l.invariant.0 l.invariant.2)
+pub loop-run-init : goal.loop-run-init
+loop-run-init c =
+    let e = c.take-run-items.ensures in
+    rw (c.into_iter-run-iterator.ensures.into_iter_gives, e.source, e.count)
+    (record {
+      walks = record { set_is = refl; storage_is = refl; end_is = refl; value_is = refl };
+      room = omega arith;
+      writing = writing_start _ _ _ _ _ _ _ _;
+    })
 
-pub loop-runs-preserved : goal.loop-runs-preserved
-loop-runs-preserved c =
-    let l = c.loop-runs in (
-      omega arith,
-      omega arith,
-      writing_next _ _ _ _ _ _ _ _ _ _ _ _ _ _ _ _ (omega arith) c.find-start.ensures c.find-from.ensures
-          (stored_run _ _ _ _ _ _ c.put32.ensures c.put32-in-loop-runs.ensures (omega (arith, l.invariant.2.same_length))) l.invariant.2,
-    )
+pub loop-run-preserved : goal.loop-run-preserved
+loop-run-preserved c =
+    let inv = c.loop-run.invariant in
+    let g = c.in-Some.ensures.steps in
+    let next : 11 + 8 * (c.loop-run.written + 1) ≡ 11 + 8 * c.loop-run.written + 8 = omega arith in
+    let start = stored_word _ c.in-Some.run'.start _ _ _ c.to_be_bytes.ensures c.put.ensures in
+    let end = stored_word _ c.in-Some.run'.end _ _ _ c.to_be_bytes-in-loop-run.ensures c.put-in-loop-run.ensures in
+    record {
+      walks = along_next _ _ _ _ _ inv.walks _ _ g.0;
+      room = omega (arith, g.1, inv.room);
+      writing = writing_one _ _ _ _ _ _ _ _ _ _ _ _ _ _ _ _ inv.walks g.0
+          (stored_run _ _ _ _ _ _ _ start end next (omega (arith, inv.writing.same_length, inv.room, g.1))) inv.writing;
+    }
+
+pub returns : goal.returns
+returns c =
+    let inv = c.loop-run.invariant in
+    writing_last _ _ _ _ _ _ _ _ _ _ _ _ _ _ _ inv.walks c.in-None.ensures.steps inv.room inv.writing

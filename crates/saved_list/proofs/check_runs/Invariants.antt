@@ -1,13 +1,14 @@
--- `saved_list::check_runs`: the loop's invariant says that the runs before `index` are good, and the rest decides
--- (`Reached`). The measure is the number of bytes left. Assumes nothing.
-use Rattle.saved_list.proofs.Kit.{◌≡◌, ◌+◌, ◌-◌, ◌*◌, ◌≤◌, length}
-use Rattle.saved_list.specs.Format.{saved_capacity}
-use Rattle.saved_list.proofs.Rule.{Reached}
+-- `saved_list::check_runs`: the reader and the count are at the same index, the runs before it are good, and the rest decides
+-- (`Reached`). Assumes nothing.
+use Rattle.std.proofs.Common.{◌≡◌}
+use Rattle.std.specs.Iterator.Adapters.{enumerate_source, enumerate_count}
+use Rattle.saved_list.proofs.Turns.{Reached}
 use Rattle.saved_list.proofs.check_runs.Given as goal
 
-abbrev pub invariant-loop-at : goal.invariant-loop-at
-invariant-loop-at l =
-    (11 ≤ length l.file) × (l.at ≡ 11 + 8 * l.index) × (l.at ≤ length l.file) × (l.capacity ≡ saved_capacity l.file) × Reached l.file l.index l.low
-
-abbrev pub decreases-loop-at : goal.decreases-loop-at
-decreases-loop-at l = length l.file - l.at
+abbrev pub invariant-loop-index : goal.invariant-loop-index
+invariant-loop-index l =
+    record {
+      file : (enumerate_source l.index-iterator).file.now ≡ l.file;
+      at : (enumerate_source l.index-iterator).at ≡ enumerate_count l.index-iterator;
+      reached : Reached l.file (enumerate_count l.index-iterator) l.low;
+    }

@@ -4,12 +4,12 @@ use Rattle.sheetmark.proofs.perform_live.Goals as goal
 
 pub returns-in-One : goal.returns-in-One
 returns-in-One c =
-    performed _ _ _ _ _ _ _ c.in-One.is (by_search _ _ _ _ c.next_one.result _ c.next_one.ensures c.of_found.ensures)
+    performed _ _ _ _ _ _ _ c.in-One.is (by_search _ _ _ _ c.next_one.result _ c.next_one.ensures c.from-in-One.ensures)
 
 pub returns-in-Zero : goal.returns-in-Zero
 returns-in-Zero c =
-    performed _ _ _ _ _ _ _ c.in-Zero.is (by_search _ _ _ _ c.next_zero.result _ c.next_zero.ensures c.of_found-in-Zero.ensures)
+    performed _ _ _ _ _ _ _ c.in-Zero.is (by_search _ _ _ _ c.next_zero.result _ c.next_zero.ensures c.from-in-Zero.ensures)
 
 pub returns-in-Wipe : goal.returns-in-Wipe
 returns-in-Wipe c =
-    performed _ _ _ _ _ _ _ c.in-Wipe.is (by_call _ _ c.wipe.result c.of_called-in-Wipe.result _ _ c.of_called-in-Wipe.ensures (c.wipe.ensures _))
+    performed _ _ _ _ _ _ _ c.in-Wipe.is (by_call _ _ _ _ _ _ c.wipe.result c.of_call-in-Wipe.result c.of_call-in-Wipe.ensures (c.wipe.ensures _))

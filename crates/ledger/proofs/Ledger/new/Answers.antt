@@ -1,18 +1,15 @@
 -- `ledger::Ledger::new` meets its contract. Assumes nothing.
-use Rattle.ledger.proofs.Kit.{eq-eqb, ne_eqb}
-use Rattle.ledger.proofs.OpenReturns.{set_declined, set_made, new_capacity, new_journal, new_lent}
+use Rattle.ledger.proofs.OpenReturns.{new_size, new_lent, new_done}
+use Rattle.answers.proofs.Numbers.{passed_on}
+use Rattle.ledger.proofs.Kit.{sym}
 use Rattle.ledger.proofs.Ledger.new.Goals as goal
 
-pub returns-in_default : goal.returns-in_default
-returns-in_default c = new_capacity _ _ _ _ (set_declined _ _ c.new.ensures _ c.in_default.is)
+pub returns-in_err-head : goal.returns-in_err-head
+returns-in_err-head c = rw (passed_on _ c.from_residual.ensures.1) (new_size _ _ _ _ _ c.in_err-head.ensures)
 
-pub returns-then-limit : goal.returns-then-limit
-returns-then-limit c = new_journal _ _ _ _ (set_made _ _ c.new.ensures _ c.in-Head.is).0 c.if-limit.true
-
-pub returns-then-refusal-ne0 : goal.returns-then-refusal-ne0
-returns-then-refusal-ne0 c =
-    new_lent _ _ _ _ _ _ _ (set_made _ _ c.new.ensures _ c.in-Head.is) c.if-limit.false c.refusal.ensures (ne_eqb _ 0 c.if-refusal-ne0.true)
+pub returns-in_err-check : goal.returns-in_err-check
+returns-in_err-check c =
+    rw (passed_on _ c.from_residual-in_err-check.ensures.1) (new_lent _ _ _ _ _ c.in_ok-head.ensures _ c.in_err-check.ensures)
 
 pub returns : goal.returns
-returns c =
-    new_lent _ _ _ _ _ _ _ (set_made _ _ c.new.ensures _ c.in-Head.is) c.if-limit.false c.refusal.ensures (eq-eqb _ 0 c.if-refusal-ne0.false)
+returns c = new_done _ _ _ _ _ c.in_ok-head.ensures (sym c.in_ok-check.ensures)

@@ -4,4 +4,4 @@ use Rattle.ledger.proofs.Kit.{arith}
 use Rattle.ledger.proofs.Ledger.write_call.Goals as goal
 
 pub returns : goal.returns
-returns c = writing_closed _ _ _ _ _ _ _ _ _ _ _ _ _ (omega arith) (omega arith) c.packed.ensures (omega arith) c.write_runs-runs.ensures
+returns c = writing_closed _ _ _ _ _ _ _ _ _ _ _ _ _ (omega arith) (omega arith) c.packed.ensures (omega arith) c.write_runs-written.ensures

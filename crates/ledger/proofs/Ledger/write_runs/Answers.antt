@@ -1,27 +1,33 @@
--- `write_runs` meets its contract: one run more written with each turn. `l` is where the loop was entered. Assumes nothing.
-use Rattle.set_runs.proofs.RunWalks.{writing_start, writing_next, writing_done, writing_most}
+-- `write_runs` meets its contract, by its loop's invariant. Assumes nothing.
+use Rattle.set_runs.proofs.RunWalks.{along_next, writing_start, writing_one, writing_last}
 use Rattle.ledger.proofs.RecordedRuns.{stored_pair}
-use Rattle.ledger.proofs.Kit.{arith}
+use Rattle.ledger.proofs.Kit.{◌≡◌, ◌+◌, ◌*◌, refl, arith}
 use Rattle.ledger.proofs.Ledger.write_runs.Goals as goal
 
-pub loop-runs-init : goal.loop-runs-init
-loop-runs-init c = (omega arith, omega arith, writing_start _ _ _ _ _ _ _ _)
+pub loop-run-init : goal.loop-run-init
+loop-run-init c =
+    let e = c.take-run-items.ensures in
+    let u : c.args.used + 2 * 0 ≡ c.args.used = omega arith in
+    rw (c.into_iter-run-iterator.ensures.into_iter_gives, e.source, e.count, u)
+    (record {
+      walks = record { set_is = refl; storage_is = refl; end_is = refl; value_is = refl };
+      room = omega arith;
+      writing = writing_start _ _ _ _ _ _ _ _;
+    })
 
-pub returns-then-at-end : goal.returns-then-at-end
-returns-then-at-end c =
-    let l = c.loop-runs in
-    rw (← l.invariant.1) (writing_done _ _ _ _ _ _ _ _ _ _ _ _ _ _ c.find-at.ensures (omega arith) l.invariant.0 l.invariant.2)
-
-pub loop-runs-preserved : goal.loop-runs-preserved
-loop-runs-preserved c =
-    let l = c.loop-runs in (
-      omega arith,
-      omega arith,
-      writing_next _ _ _ _ _ _ _ _ _ _ _ _ _ _ _ _ (omega arith) c.find-at.ensures c.find-from.ensures
-          (stored_pair _ _ _ _ _ _ _ (omega arith) (omega arith) c.low_u32.ensures c.low_u32-in-loop-runs.ensures) l.invariant.2,
-    )
+pub loop-run-preserved : goal.loop-run-preserved
+loop-run-preserved c =
+    let inv = c.loop-run.invariant in
+    let g = c.in-Some.ensures.steps in
+    let next : c.args.used + 2 * (c.loop-run.written + 1) ≡ c.args.used + 2 * c.loop-run.written + 2 = omega arith in
+    record {
+      walks = along_next _ _ _ _ _ inv.walks _ _ g.0;
+      room = omega (arith, g.1, inv.room);
+      writing = writing_one _ _ _ _ _ _ _ _ _ _ _ _ _ _ _ _ inv.walks g.0
+          (stored_pair _ _ _ _ _ next (omega (arith, inv.writing.same_length, inv.room, g.1))) inv.writing;
+    }
 
 pub returns : goal.returns
 returns c =
-    let l = c.loop-runs in
-    rw (← l.invariant.1) (writing_most _ _ _ _ _ _ _ _ _ _ _ _ _ l.invariant.0 (omega arith) l.invariant.2)
+    let inv = c.loop-run.invariant in
+    writing_last _ _ _ _ _ _ _ _ _ _ _ _ _ _ _ inv.walks c.in-None.ensures.steps inv.room inv.writing

@@ -1,14 +1,15 @@
--- `write_runs`'s loop. The invariant: `runs` runs are written and the rest lie from `from` on (`Writing`). The measure is how
--- many it may still write. Assumes nothing.
-use Rattle.set_runs.proofs.RunWalks.{Writing}
+-- `write_runs`'s loop. The invariant: the iterator walks over the runs; `written` are written, and those that it has left lie from where
+-- it stands on (`Writing`). Assumes nothing.
+use Rattle.set_runs.proofs.RunWalks.{Along, Writing}
 use Rattle.ledger.specs.Journal.{pair}
-use Rattle.ledger.proofs.Kit.{◌+◌, ◌*◌, ◌-◌, ◌≤◌, ◌≡◌}
+use Rattle.ledger.proofs.Kit.{◌+◌, ◌*◌, ◌≡◌}
 use Rattle.ledger.proofs.Ledger.write_runs.Given as goal
 
-abbrev pub invariant-loop-runs : goal.invariant-loop-runs
-invariant-loop-runs l =
-    (l.runs ≤ l.most) × (l.slot ≡ l.used + 2 * l.runs)
-    × Writing pair l.set l.storage l.start l.end l.value l.used l.initial.journal l.journal l.runs l.slot l.from
-
-abbrev pub decreases-loop-runs : goal.decreases-loop-runs
-decreases-loop-runs l = l.most - l.runs
+abbrev pub invariant-loop-run : goal.invariant-loop-run
+invariant-loop-run l =
+    let r = l.fn.runs in
+    record {
+      walks : Along r.set r.storage.now r.end r.value l.run-iterator.iter;
+      room : l.written + l.run-iterator.n ≡ l.most;
+      writing : Writing pair r.set r.storage.now r.from r.end r.value l.used l.fn.journal l.journal l.written (l.used + 2 * l.written) l.run-iterator.iter.from;
+    }

@@ -1,12 +1,12 @@
 -- `range_bitset::RangeBitset::allowed` meets its contract. Assumes nothing.
-use Rattle.std.proofs.Common.{eq-eqb, ne_eqb}
 use Rattle.range_bitset.specs.Layout.{allowed}
+use Rattle.range_bitset.proofs.Kit.{sym, ◌∙◌}
 use Rattle.range_bitset.proofs.RangeBitset.allowed.Goals as goal
 
-pub returns-then-words-eq1 : goal.returns-then-words-eq1
+pub returns-then-is_power_of_two : goal.returns-then-is_power_of_two
 unfolding allowed
-returns-then-words-eq1 c = rw (eq-eqb _ _ c.if-words-eq1.true)
+returns-then-is_power_of_two c = rw (sym c.is_power_of_two.ensures ∙ c.if-is_power_of_two.true)
 
-pub returns-else-words-eq1 : goal.returns-else-words-eq1
+pub returns-else-is_power_of_two : goal.returns-else-is_power_of_two
 unfolding allowed
-returns-else-words-eq1 c = rw (ne_eqb _ _ c.if-words-eq1.false)
+returns-else-is_power_of_two c = rw (sym c.is_power_of_two.ensures ∙ c.if-is_power_of_two.false) c.if-is_power_of_two.false

@@ -1,32 +1,33 @@
 -- `range_bitset::RangeBitset::assign` meets its contract. Assumes nothing.
 use Rattle.range_bitset.proofs.ChangeReturns.{unaccepted, assign_empty, assign_idle, assign_done}
 use Rattle.range_bitset.proofs.AcceptedHeads.{range_accepted, room_same}
-use Rattle.range_bitset.proofs.Kit.{true≢false, ⊎_elim, refl, sym, ◌∙◌}
+use Rattle.range_bitset.proofs.Kit.{true≢false, ⊎_elim, sym, ◌∙◌}
+use Rattle.answers.proofs.Numbers.{passed_on}
 use Rattle.range_bitset.proofs.RangeBitset.assign.Goals as goal
 use Rattle.range_bitset.proofs.RangeBitset.assign.Goals.{then-start-end-via-then-start-end, then-start-end-via-else-start-end+then-self-eq0}
 
-pub returns-then-refused-ne0 : goal.returns-then-refused-ne0
-returns-then-refused-ne0 c = unaccepted _ _ _ _ _ c.range_refusal-refused.ensures c.if-refused-ne0.true refl
+pub returns-in_err-check_range : goal.returns-in_err-check_range
+returns-in_err-check_range c = rw (passed_on _ c.from_residual.ensures.1) (unaccepted _ _ _ _ c.in_err-check_range.ensures)
 
 pub returns-then-start-end : goal.returns-then-start-end
 returns-then-start-end c =
-    let ok = sym c.range_refusal-refused.ensures ∙ c.if-refused-ne0.false in
+    let ok = sym c.in_ok-check_range.ensures in
     elim c.then-start-end.branch [
       | then-start-end-via-then-start-end w ↦ assign_empty _ _ _ _ _ ok w.if-start-end.true
       | then-start-end-via-else-start-end+then-self-eq0 w ↦ assign_idle _ _ _ _ _ ok w.if-self-eq0.true.0 w.if-self-eq0.true.1
     ]
 
 pub ensure_storage-requires : goal.ensure_storage-requires
-ensure_storage-requires c = (range_accepted _ _ _ (sym c.range_refusal-refused.ensures ∙ c.if-refused-ne0.false)).0
+ensure_storage-requires c = (range_accepted _ _ _ (sym c.in_ok-check_range.ensures)).0
 
 pub assign_range-changed-requires : goal.assign_range-changed-requires
 assign_range-changed-requires c =
-    let q = range_accepted c.args.self c.args.storage.now c.args.end (sym c.range_refusal-refused.ensures ∙ c.if-refused-ne0.false) in
+    let q = range_accepted c.args.self c.args.storage.now c.args.end (sym c.in_ok-check_range.ensures) in
     (room_same _ _ _ q.0 c.ensure_storage.auto.storage, c.if-start-end.false, q.1)
 
 pub returns : goal.returns
 returns c =
-    assign_done _ _ _ _ _ (sym c.range_refusal-refused.ensures ∙ c.if-refused-ne0.false) c.ensure_storage.new.storage _ c.assign_range-changed.result c.shifted.result
+    assign_done _ _ _ _ _ (sym c.in_ok-check_range.ensures) c.ensure_storage.new.storage _ c.assign_range-changed.result c.shifted.result
     c.if-start-end.false
     (λ f z. ⊎_elim (λ w. w.1 z) (λ w. true≢false (sym w ∙ f)) c.if-self-eq0.either)
     c.ensure_storage.ensures

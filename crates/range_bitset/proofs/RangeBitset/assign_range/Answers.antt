@@ -1,6 +1,6 @@
 -- `range_bitset::RangeBitset::assign_range` meets its contract. Assumes nothing.
 use Rattle.range_bitset.proofs.Pieces.{assigns_to, assigns_pieces, LowEnd, HighEnd, low_end_none, high_end_none}
-use Rattle.range_bitset.proofs.Kit.{arith, ◌*◌, ◌%◌, refl, ◌∙◌}
+use Rattle.range_bitset.proofs.Kit.{arith, ◌*◌, ◌%◌, refl}
 use Rattle.range_bitset.proofs.RangeBitset.assign_range.Goals as goal
 use Rattle.range_bitset.proofs.RangeBitset.assign_range.Goals.{then-start-ne0, else-start-ne0, then-end-ne0, else-end-ne0}
 
@@ -30,11 +30,11 @@ returns c =
             more = w.assign_in_word-more.result;
             high = omega arith;
             near = omega arith;
-            sum = w.changed-is ∙ w.wrapping_add_u32-changed.ensures.value;
+            sum = w.changed-is;
             assigns = assigns_to _ _ _ (omega arith) (omega arith) w.storage-is refl (w.assign_in_word-more.ensures 0 (a.end % 64) w.span.ensures (omega arith) (omega arith));
           }
       | else-end-ne0 w ↦ high_end_none _ _ _ _ _ _ _ _ _ (omega arith) (omega arith) low.fits w.storage-is w.changed-is
     ]
     in
     assigns_pieces _ _ _ _ _ _ _ _ _ _ c.if-start-ne0.changed high.more c.assign_whole_words-more.result _ low.low (omega arith) high.high (omega (arith, c.requires.0.most, c.requires.2))
-    low.assigns high.assigns c.assign_whole_words-more.ensures (omega (arith, c.wrapping_add_u32.ensures.value, high.sum))
+    low.assigns high.assigns c.assign_whole_words-more.ensures (omega (arith, high.sum))

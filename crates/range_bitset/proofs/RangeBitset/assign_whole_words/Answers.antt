@@ -57,7 +57,7 @@ returns-then-blocks_from-blocks_to c =
             more = w.assign_words-more.result;
             high = omega arith;
             near = omega arith;
-            sum = w.changed-is ∙ w.wrapping_add_u32-changed.ensures.value;
+            sum = w.changed-is;
             assigns = assigns_to _ _ _ (omega arith) (omega arith) w.storage-is refl (w.assign_words-more.ensures 0 (a.to % 64) w.span.ensures (omega arith) (omega (arith, c.requires.1)));
           }
       | else-to-ne0 w ↦ high_end_none _ _ _ _ _ _ _ _ _ (omega arith) (omega arith) low.fits w.storage-is w.changed-is
@@ -66,7 +66,7 @@ returns-then-blocks_from-blocks_to c =
     assigns_pieces _ _ (4096 * c.if-from-ne0.blocks_from) (4096 * c.if-to-ne0.blocks_to) _ _ _ _ _ _ c.if-from-ne0.changed high.more c.assign_blocks-more.result _
     low.low (omega (arith, c.if-blocks_from-blocks_to.true)) high.high (omega (arith, c.requires.0.most, c.requires.1))
     low.assigns high.assigns (c.assign_blocks-more.ensures _ _ c.span-then-blocks_from-blocks_to.ensures (omega (arith, c.if-blocks_from-blocks_to.true)) (omega (arith, high.high, c.requires.1)))
-    (omega (arith, c.wrapping_add_u32-changed-then-blocks_from-blocks_to.ensures.value, high.sum))
+    (omega (arith, high.sum))
 
 pub returns-else-blocks_from-blocks_to : goal.returns-else-blocks_from-blocks_to
 returns-else-blocks_from-blocks_to c =
@@ -90,7 +90,7 @@ returns-else-blocks_from-blocks_to c =
             more = w.assign_words-more.result;
             high = omega arith;
             near = omega arith;
-            sum = w.changed-is ∙ w.wrapping_add_u32-changed.ensures.value;
+            sum = w.changed-is;
             assigns = assigns_to _ _ _ (omega arith) (omega arith) w.storage-is refl (w.assign_words-more.ensures 0 (a.to % 64) w.span.ensures (omega arith) (omega (arith, c.requires.1)));
           }
       | else-to-ne0 w ↦ high_end_none _ _ _ _ _ _ _ _ _ (omega arith) (omega arith) low.fits w.storage-is w.changed-is

@@ -4,6 +4,8 @@ use Rattle.range_bitset.specs.Represents.{only}
 use Rattle.range_bitset.proofs.Populations.{mixed_count_lem}
 use Rattle.range_bitset.proofs.OpenBlocks.{open_here}
 use Rattle.range_bitset.proofs.AcceptedHeads.{room_same}
+use Rattle.range_bitset.specs.Layout.{nonzero, full}
+use Rattle.range_bitset.proofs.Slots.{masks_at}
 use Rattle.range_bitset.proofs.WholeWords.{words_assigned}
 use Rattle.range_bitset.proofs.RangeBitset.assign_words.Goals as goal
 
@@ -15,7 +17,7 @@ returns c =
     c.open_block.ensures
     (λ s t. c.mixed_words_population-old.ensures.0 ∙ mixed_count_lem _ _ s (only c.args.block) t _ _ a b sp l u (open_here _ s c.args.block))
     c.size_if-new.ensures
-    c.write_masks.ensures
+    (masks_at _ _ (nonzero c.args.block) (full c.args.block) c.args.mask c.args.value c.nonzero_slot-nonzero.ensures c.full_slot-full.ensures c.write_masks.ensures)
     c.apply_population-changed.ensures.0
     c.apply_population-changed.ensures.1
     c.close_block.ensures

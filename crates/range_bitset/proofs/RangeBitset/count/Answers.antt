@@ -1,24 +1,27 @@
 -- `count` meets its contract: one law of QueryReturns for each return. Assumes nothing.
-use Rattle.range_bitset.proofs.Kit.{⊎_elim, refl, sym, ◌∙◌, arith}
+use Rattle.range_bitset.proofs.Kit.{⊎_elim, sym, arith}
 use Rattle.range_bitset.proofs.AcceptedHeads.{range_accepted}
 use Rattle.range_bitset.proofs.QueryReturns.{declined, count_nothing, count_empty_set, count_begun}
+use Rattle.answers.proofs.Numbers.{passed_on}
 use Rattle.range_bitset.proofs.RangeBitset.count.Goals as goal
 
-pub returns-then-refused-ne0 : goal.returns-then-refused-ne0
-returns-then-refused-ne0 c =
-    declined _ _ _ _ _ c.range_refusal-refused.ensures c.if-refused-ne0.true refl
+pub returns-in_err-check_range : goal.returns-in_err-check_range
+returns-in_err-check_range c = rw (passed_on _ c.from_residual.ensures.1) (declined _ _ _ _ c.in_err-check_range.ensures)
 
 pub returns-then-start-end : goal.returns-then-start-end
 returns-then-start-end c =
-    let ok = sym c.range_refusal-refused.ensures ∙ c.if-refused-ne0.false in
+    let ok = sym c.in_ok-check_range.ensures in
     ⊎_elim (λ w. count_nothing _ _ _ _ ok w) (λ w. count_empty_set _ _ _ _ ok w.1) c.then-start-end.either
+
+pub invariant_of-view : goal.invariant_of-view
+invariant_of-view c = record { room = (range_accepted c.args.self c.args.storage.now c.args.end (sym c.in_ok-check_range.ensures)).0 }
 
 pub count_range-requires : goal.count_range-requires
 count_range-requires c =
     let a = c.args in
-    let q = range_accepted a.self a.storage.now a.end (sym c.range_refusal-refused.ensures ∙ c.if-refused-ne0.false) in
-    (q.0, omega (arith, c.if-start-end.false), q.1)
+    let q = range_accepted a.self a.storage.now a.end (sym c.in_ok-check_range.ensures) in
+    (omega (arith, c.if-start-end.false), q.1)
 
 pub returns : goal.returns
 returns c =
-    count_begun _ _ _ _ (sym c.range_refusal-refused.ensures ∙ c.if-refused-ne0.false) _ c.if-self-eq0.false c.count_range.ensures
+    count_begun _ _ _ _ (sym c.in_ok-check_range.ensures) _ c.if-self-eq0.false c.count_range.ensures

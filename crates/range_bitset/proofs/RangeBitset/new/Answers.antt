@@ -5,16 +5,17 @@ use Rattle.range_bitset.specs.Answers.{allowed_capacity}
 use Rattle.range_bitset.specs.Layout.{allowed}
 use Rattle.range_bitset.proofs.Kit.{ne_eqb, eq-eqb, ◌/◌, arith, true, false, ◌≡◌, sym, ◌∙◌}
 use Rattle.range_bitset.proofs.RangeBitset.new.Goals as goal
+use Rattle.range_bitset.proofs.RangeBitset.new.Goals.{then-capacity-ne0-via-then-capacity-ne0, then-capacity-ne0-via-else-capacity-ne0+then-not-allowed}
 
 pub returns-then-capacity-ne0 : goal.returns-then-capacity-ne0
 unfolding new_of allowed_capacity
-returns-then-capacity-ne0 c = rw (ne_eqb _ _ c.if-capacity-ne0.true)
-
-pub returns-then-not-allowed : goal.returns-then-not-allowed
-unfolding new_of allowed_capacity
-returns-then-not-allowed c =
-    let e : allowed (c.args.capacity / 64) ≡ false = sym c.allowed.ensures ∙ c.if-not-allowed.true in
-    rw (eq-eqb _ _ c.if-capacity-ne0.false, e)
+returns-then-capacity-ne0 c =
+    elim c.then-capacity-ne0.branch [
+      | then-capacity-ne0-via-then-capacity-ne0 w ↦ rw (ne_eqb _ _ w.if-capacity-ne0.true)
+      | then-capacity-ne0-via-else-capacity-ne0+then-not-allowed w ↦
+          let e : allowed (c.args.capacity / 64) ≡ false = sym w.allowed.ensures ∙ w.if-not-allowed.true in
+          rw (eq-eqb _ _ w.if-capacity-ne0.false, e)
+    ]
 
 pub overflow_cast-result : goal.overflow_cast-result
 overflow_cast-result c =

@@ -12,7 +12,7 @@ overflow_add-next_word c =
 
 pub first_in_word-requires : goal.first_in_word-requires
 first_in_word-requires c =
-    (c.requires.0, word_there _ _ _ _ c.requires.1 _ _ c.candidate_words.ensures c.above.ensures c.if-later_words-ne0.true)
+    word_there _ _ _ _ c.requires.1 _ _ c.candidate_words.ensures c.above.ensures c.if-later_words-ne0.true
 
 pub returns-then-later_words-ne0 : goal.returns-then-later_words-ne0
 returns-then-later_words-ne0 c =
@@ -27,7 +27,7 @@ overflow_cast-next_block c = omega (arith, trailing_le 64 (bit_and c.candidate_b
 
 pub candidate_words-in_block-requires : goal.candidate_words-in_block-requires
 candidate_words-in_block-requires c =
-    (c.requires.0, block_there _ _ _ _ c.requires.1 c.requires.0.most _ _ c.candidate_blocks.ensures c.above-2.ensures c.if-later_blocks-eq0.false)
+    block_there _ _ _ _ c.requires.1 c.requires.0.most _ _ c.candidate_blocks.ensures c.above-2.ensures c.if-later_blocks-eq0.false
 
 pub returns-then-in_block-eq0 : goal.returns-then-in_block-eq0
 returns-then-in_block-eq0 c =
@@ -45,7 +45,7 @@ overflow_add-next_word-2 c =
 
 pub first_in_word-requires-2 : goal.first_in_word-requires-2
 first_in_word-requires-2 c =
-    (c.requires.0, later_there _ _ _ _ c.requires.1 c.requires.0.most _ _ c.candidate_blocks.ensures c.above-2.ensures c.if-later_blocks-eq0.false _ c.candidate_words-in_block.ensures c.if-in_block-eq0.false)
+    later_there _ _ _ _ c.requires.1 c.requires.0.most _ _ c.candidate_blocks.ensures c.above-2.ensures c.if-later_blocks-eq0.false _ c.candidate_words-in_block.ensures c.if-in_block-eq0.false
 
 pub returns : goal.returns
 returns c =

@@ -1,26 +1,27 @@
 -- `range_bitset::RangeBitset::set` meets its contract. Assumes nothing.
 use Rattle.range_bitset.proofs.ChangeReturns.{unaccepted, set_idle, set_done}
 use Rattle.range_bitset.proofs.AcceptedHeads.{point_accepted, room_same}
-use Rattle.range_bitset.proofs.Kit.{arith, true≢false, ⊎_elim, refl, sym, ◌∙◌}
+use Rattle.range_bitset.proofs.Kit.{arith, true≢false, ⊎_elim, sym, ◌∙◌}
+use Rattle.answers.proofs.Numbers.{passed_on}
 use Rattle.range_bitset.proofs.RangeBitset.set.Goals as goal
 
-pub returns-then-refused-ne0 : goal.returns-then-refused-ne0
-returns-then-refused-ne0 c = unaccepted _ _ _ _ _ c.point_refusal-refused.ensures c.if-refused-ne0.true refl
+pub returns-in_err-check_point : goal.returns-in_err-check_point
+returns-in_err-check_point c = rw (passed_on _ c.from_residual.ensures.1) (unaccepted _ _ _ _ c.in_err-check_point.ensures)
 
 pub returns-then-self-eq0 : goal.returns-then-self-eq0
-returns-then-self-eq0 c = set_idle _ _ _ _ (sym c.point_refusal-refused.ensures ∙ c.if-refused-ne0.false) (c.if-not-value.true) c.if-self-eq0.true
+returns-then-self-eq0 c = set_idle _ _ _ _ (sym c.in_ok-check_point.ensures) (c.if-not-value.true) c.if-self-eq0.true
 
 pub ensure_storage-requires : goal.ensure_storage-requires
-ensure_storage-requires c = (point_accepted _ _ _ (sym c.point_refusal-refused.ensures ∙ c.if-refused-ne0.false)).0
+ensure_storage-requires c = (point_accepted _ _ _ (sym c.in_ok-check_point.ensures)).0
 
 pub assign_in_word-changed-requires : goal.assign_in_word-changed-requires
 assign_in_word-changed-requires c =
-    let q = point_accepted c.args.self c.args.storage.now c.args.index (sym c.point_refusal-refused.ensures ∙ c.if-refused-ne0.false) in
+    let q = point_accepted c.args.self c.args.storage.now c.args.index (sym c.in_ok-check_point.ensures) in
     (room_same _ _ _ q.0 c.ensure_storage.auto.storage, omega arith)
 
 pub returns : goal.returns
 returns c =
-    set_done _ _ _ _ (sym c.point_refusal-refused.ensures ∙ c.if-refused-ne0.false) c.ensure_storage.new.storage _ c.assign_in_word-changed.result c.shifted.result c.single-bit.result
+    set_done _ _ _ _ (sym c.in_ok-check_point.ensures) c.ensure_storage.new.storage _ c.assign_in_word-changed.result c.shifted.result c.single-bit.result
     (λ f z. ⊎_elim (λ w. w.1 z) (λ w. true≢false (sym w ∙ f)) c.else-not-value.either)
     c.ensure_storage.ensures
     c.single-bit.ensures

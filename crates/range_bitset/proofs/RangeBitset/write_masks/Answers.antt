@@ -2,4 +2,4 @@
 use Rattle.range_bitset.proofs.RangeBitset.write_masks.Goals as goal
 
 pub returns : goal.returns
-returns c = rw (c.combined-new_full.ensures, c.combined-new_nonzero.ensures, c.full_slot-full.ensures, c.nonzero_slot-nonzero.ensures)
+returns c = rw (c.combined-new_full.ensures, c.combined-new_nonzero.ensures)

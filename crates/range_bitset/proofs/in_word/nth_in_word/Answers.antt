@@ -19,11 +19,11 @@ returns c =
     let halves = c.paired-halves.ensures 2 bits sixteens refl in (
       omega arith,
       λ l.
-          let in32 = c.narrowed-found.ensures.among bits n 2 halves refl (among_all bits n fits l) in
-          let in16 = c.narrowed-found-2.ensures.among bits n 4 sixteens refl in32 in
-          let in8 = c.narrowed-found-3.ensures.among bits n 8 eights refl in16 in
-          let in4 = c.narrowed-found-4.ensures.among bits n 16 fours refl in8 in
-          let in2 = c.narrowed-found-5.ensures.among bits n 32 twos refl in4 in
-          let in1 = c.narrowed.ensures.among bits n 64 single refl in2 in
+          let in32 = c.narrowed.ensures.among bits n 2 halves refl (among_all bits n fits l) in
+          let in16 = c.narrowed-2.ensures.among bits n 4 sixteens refl in32 in
+          let in8 = c.narrowed-3.ensures.among bits n 8 eights refl in16 in
+          let in4 = c.narrowed-4.ensures.among bits n 16 fours refl in8 in
+          let in2 = c.narrowed-5.ensures.among bits n 32 twos refl in4 in
+          let in1 = c.narrowed-6.ensures.among bits n 64 single refl in2 in
           among_one bits n _ _ in1,
     )

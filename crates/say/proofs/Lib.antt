@@ -1,2 +1,0 @@
--- The laws of this crate. Assumes nothing.
-mod Printing
