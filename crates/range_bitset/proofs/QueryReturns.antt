@@ -1,5 +1,5 @@
 -- The returns of the entries that change nothing: what each answers, from what the code has there. Assumes nothing.
-use Rattle.range_bitset.proofs.Kit.{◌≡◌, refl, ap, sym, ◌∙◌, ◌≢◌, Bool, true, false, List, ℕ, ◌/◌, ◌%◌, ◌≤◌, ◌<◌, zero-le, le_refl, arith, length}
+use Rattle.range_bitset.proofs.Kit.{◌≡◌, refl, ap, sym, ◌∙◌, ◌≢◌, Bool, true, false, List, ℕ, ◌*◌, ◌/◌, ◌%◌, ◌≤◌, ◌<◌, zero-le, le_refl, arith, length}
 use Rattle.positions.proofs.Replies.{accepted_refused}
 use Rattle.positions.specs.Positions.{Positions, one, Place, found_at, not_found}
 use Rattle.positions.proofs.Counts.{count_empty, count_none, count_zero}
@@ -11,7 +11,7 @@ use Rattle.range_bitset.specs.Represents.{closed, Represents, Stored, capacity_o
 use Rattle.positions.specs.Replies.{Reply, number, refusal, of_place, Accepted}
 use Rattle.range_bitset.specs.Answers.{point_refusal, range_refusal}
 use Rattle.range_bitset.specs.Entries.{Answers, GetEnsures, CountEnsures, NextEnsures}
-use Rattle.range_bitset.specs.Inner.{Counts, NextFrom}
+use Rattle.range_bitset.specs.Inner.{Room, Counts, NextFrom}
 use Rattle.range_bitset.specs.declared.RangeBitset.{RangeBitset}
 use Rattle.std.proofs.Common.{Option, Some, None, Ok}
 use Rattle.answers.specs.Refusals.{number_of, of_position}
@@ -100,6 +100,10 @@ module _ (h : RangeBitset) (st : List ℕ) (a e : ℕ) (k : range_refusal h (len
       (sym
       (first_at s false a e a
       (record { low = le_refl a; high = l; value = t.fresh z a (omega arith); none_before = λ i p q. absurd (omega arith) }))))
+
+  -- what a search needs of the storage
+  pub searchable : a < e → Room h.words st × (a < 64 * h.words)
+  searchable l = let q = range_accepted h st e k in (q.0, omega (arith, q.1))
 
   searched : (v : Bool) (p : ℕ) (r : Option ℕ) → ((s : Positions) → Represents h st s → Stored h.words st s) → NextFrom h.words a v st p
       → of_position r ≡ of_place (below p e) → NextEnsures v h st a e (Ok r)

@@ -6,7 +6,7 @@ ghost use Rattle.range_bitset.specs.Read.{ALL, word_read};
 ghost use Rattle.positions.specs.Replies.{of_place};
 ghost use Rattle.answers.specs.Refusals.{of_position};
 ghost use Rattle.range_bitset.specs.Entries.{NextEnsures};
-ghost use Rattle.range_bitset.specs.Inner.{Room, CandidateWords, CandidateBlocks, NextInWord, NextAfter, BitsFrom};
+ghost use Rattle.range_bitset.specs.Inner.{Room, CandidateWords, CandidateBlocks, NextInWord, NextFrom, NextAfter, BitsFrom};
 
 use crate::{RangeBitset, State, View, above, rest, span};
 use answers::Refusal;
@@ -98,6 +98,18 @@ impl RangeBitset {
         view.first_in_word(next_word, value)
     }
 
+    // The Rust's `next_from`, with the capacity in place of `None`. Its value is a const parameter, so that either search is compiled by itself.
+    fn next_from<const VALUE: bool>(storage: &[u64], words: usize, from: usize) -> usize
+        requires { Room words storage.now × (from < 64 * words) }
+        ensures { NextFrom words from VALUE storage.now result }
+    {
+        let bits = View { storage, words }.bits_from(from, VALUE);
+        if bits != 0 {
+            return from / 64 * 64 + bits.trailing_zeros() as usize;
+        }
+        Self::next_after(storage, words, from, VALUE)
+    }
+
     // A position that was found, if it is below `end`.
     fn below(at: usize, end: usize) -> Option<usize>
         ensures { of_position result ≡ of_place (below at end) }
@@ -118,14 +130,8 @@ impl RangeBitset {
         if from >= end || self.len == 0 {
             return Ok(None);
         }
-        let words = self.words as usize;
-        let view = View { storage, words };
-        let bits = view.bits_from(from, true);
-        if bits != 0 {
-            let at = from / 64 * 64 + bits.trailing_zeros() as usize;
-            return Ok(Self::below(at, end));
-        }
-        Ok(Self::below(Self::next_after(storage, words, from, true), end))
+        let at = Self::next_from::<true>(storage, self.words as usize, from);
+        Ok(Self::below(at, end))
     }
 
     // First clear position in `from..end`.
@@ -144,13 +150,7 @@ impl RangeBitset {
         if !self.allocated {
             return Ok(Some(from));
         }
-        let words = self.words as usize;
-        let view = View { storage, words };
-        let bits = view.bits_from(from, false);
-        if bits != 0 {
-            let at = from / 64 * 64 + bits.trailing_zeros() as usize;
-            return Ok(Self::below(at, end));
-        }
-        Ok(Self::below(Self::next_after(storage, words, from, false), end))
+        let at = Self::next_from::<false>(storage, self.words as usize, from);
+        Ok(Self::below(at, end))
     }
 }
