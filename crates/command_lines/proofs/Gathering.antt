@@ -1,7 +1,7 @@
 -- Laws of gathering a line: the bytes up to a newline and those behind it, by where the newline is. Assumes nothing.
-use Rattle.command_lines.proofs.Kit.{◌≡◌, refl, sym, ap, ◌∙◌, Bool, true, false, not, cond, Some, None, List, [], ◌∷◌, ◌++◌, ℕ, ◌+◌, ◌≤◌, ◌<◌, arith, one-add, length, take, drop, take_all, eqb, ltb, ltb-true, position, position_or_len, prefix_len, cond_some}
+use Rattle.command_lines.proofs.Kit.{◌≡◌, refl, sym, ap, ◌∙◌, Bool, true, false, not, cond, Some, None, List, [], ◌∷◌, ℕ, ◌+◌, ◌≤◌, ◌<◌, arith, one-add, length, take, drop, take_all, eqb, ltb, ltb-true, position, position_or_len, prefix_len, cond_some}
 use Rattle.command_lines.specs.Inner.{SplitsAt}
-use Rattle.command_lines.specs.Input.{up_to, ends, Gathers}
+use Rattle.command_lines.specs.Input.{up_to, ends, Splits, Gathers}
 
 abbrev newline : ℕ → Bool
 newline b = eqb b 10
@@ -26,19 +26,19 @@ line_at (b ∷ t) = go (eqb b 10) refl (line_at t) where
     ended = λ h. simp (e, l.ended (omega arith));
   }
 
-module _ {size : ℕ} {t line after : List ℕ} where
-  pub gathers_all : position newline t ≡ None → after ≡ take size (line ++ t) → Gathers size t line after None
-  gathers_all e h =
+module _ {t : List ℕ} where
+  pub splits_none : position newline t ≡ None → Splits t t None
+  splits_none e =
       let l = line_at t in
       let n : length t ≤ position_or_len newline t = grind arith in
-      record { line_after = rw (l.upto, take_all (position_or_len newline t) t n) h; next = simp (l.unended n) }
+      record { before = sym (l.upto ∙ take_all (position_or_len newline t) t n); behind = simp (l.unended n) }
 
-  pub gathers_part : {a b : List ℕ} → SplitsAt 10 t a b → after ≡ take size (line ++ a) → Gathers size t line after (Some b)
-  gathers_part {a} {b} s h =
+  pub splits_part : {a b : List ℕ} → SplitsAt 10 t a b → Splits t a (Some b)
+  splits_part {a} {b} s =
       let l = line_at t in
       let (n, e) = cond_some (ltb (position_or_len newline t) (length t)) (position_or_len newline t) (length a) s.place in
       let u : up_to t ≡ a = l.upto ∙ sym s.before in
-      record { line_after = rw u h; next = simp (l.ended (ltb-true _ _ n), u) (ap Some (s.behind ∙ ap (λ (k : ℕ). drop (k + 1) t) e)) }
+      record { before = sym u; behind = simp (l.ended (ltb-true _ _ n), u) (ap Some (s.behind ∙ ap (λ (k : ℕ). drop (k + 1) t) e)) }
 
 -- ---- what an answer says: the line has ended, and what follows its newline; or it has not
 

@@ -29,6 +29,11 @@ unfoldable pub ends : List ℕ → Bool
 ends [] = false
 ends (b ∷ t) = cond (eqb b 10) true (ends t)
 
+-- what a text is split into: the bytes up to the first newline, and what follows it
+pub record Splits (text part : List ℕ) (rest : Option (List ℕ)) : Type 0 where
+  pub before : part ≡ up_to text
+  pub behind : rest ≡ cond (ends text) (Some (drop (length (up_to text) + 1) text)) None
+
 -- what gathering a line gives: `line` is what a buffer for `size` bytes holds, `after` what it holds then, and `rest` what
 -- follows the newline. The bytes up to the newline stand behind those that were held, as far as there is room
 pub record Gathers (size : ℕ) (text line after : List ℕ) (rest : Option (List ℕ)) : Type 0 where

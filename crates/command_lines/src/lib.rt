@@ -9,8 +9,8 @@ ghost use Rattle.positions.specs.Replies.{number};
 ghost use Rattle.answers.specs.Refusals.{of_result, of_position};
 ghost use Rattle.command_lines.specs.Lines.{fields, is_number, value, pair, alone, with, meaning};
 ghost use Rattle.command_lines.specs.Inner.{SplitsAt};
-ghost use Rattle.command_lines.specs.Answers.{answer_of, low32, text, out_after};
-ghost use Rattle.command_lines.specs.Input.{Gathers};
+ghost use Rattle.command_lines.specs.Answers.{answer_of, low32, text, printed, out_after};
+ghost use Rattle.command_lines.specs.Input.{Splits, Gathers};
 
 use answers::Refusal;
 use arrayvec::ArrayVec;
@@ -193,19 +193,35 @@ pub fn put_answer<const N: usize>(out: &mut ArrayVec<u8, N>, answer: Answer)
     put(out, b"\n");
 }
 
+// An answer's line by itself, for a buffer of any other kind.
+pub fn answer_line(answer: Answer) -> ArrayVec<u8, 12>
+    ensures { result.items ≡ printed answer }
+{
+    let mut line = ArrayVec::new();
+    put_answer(&mut line, answer);
+    line
+}
+
 // ---- lines from input in parts
 
+// The bytes before the first newline, and what follows it; where there is none all bytes, and None.
+pub fn split_line(text: &[u8]) -> (&[u8], Option<&[u8]>)
+    ensures { Splits text.now result.0.now (option_copied result.1) }
+{
+    match split_once(text, b'\n') {
+        Some((part, rest)) => (part, Some(rest)),
+        None => (text, None),
+    }
+}
+
 // Moves the bytes of the input into the line buffer, up to a newline or the input's end; those that the buffer has no room for
-// are lost. Answers what follows the newline, or None where the line has not ended.
+// are lost. Answers what follows the newline, or None where the line has not ended. Into a buffer of any other kind goes what `split_line` gives.
 pub fn gather<'a, const N: usize>(text: &'a [u8], line: &mut ArrayVec<u8, N>) -> Option<&'a [u8]>
     ensures { Gathers N text.now line.old.items line.new.items (option_copied result) }
 {
-    let Some((part, rest)) = split_once(text, b'\n') else {
-        keep(line, text);
-        return None;
-    };
+    let (part, rest) = split_line(text);
     keep(line, part);
-    Some(rest)
+    rest
 }
 
 // Stores the bytes behind the kept ones, as many as there is room for.

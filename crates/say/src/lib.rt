@@ -6,7 +6,6 @@ ghost use Rattle.std.specs.Prelude.{◌≡◌, length, OnOk};
 ghost use Rattle.std.specs.Io.KnownBytes.{Appends};
 ghost use Rattle.command_lines.specs.Answers.{printed};
 
-use arrayvec::ArrayVec;
 use command_lines::Answer;
 use std::io;
 use std::io::Write;
@@ -17,7 +16,6 @@ pub fn print<W: Write>(out: &mut W, answer: Answer) -> (usize, io::Result<()>)
     ensures line_length { result.0 ≡ length (printed answer) }
     ensures written { OnOk result.1 (Appends (W.contents out.old) (W.contents out.new) (printed answer)) }
 {
-    let mut line = ArrayVec::<u8, 12>::new();
-    command_lines::put_answer(&mut line, answer);
+    let line = command_lines::answer_line(answer);
     (line.len(), out.write_all(line.as_slice()))
 }

@@ -1,9 +1,6 @@
--- `command_lines::gather` meets its contract, by where the first newline is. Assumes nothing.
-use Rattle.command_lines.proofs.Gathering.{gathers_all, gathers_part}
+-- `command_lines::gather` meets its contract. Assumes nothing.
+use Rattle.command_lines.proofs.Kit.{sym}
 use Rattle.command_lines.proofs.gather.Goals as goal
 
-pub returns-in_default : goal.returns-in_default
-returns-in_default g c = gathers_all c.in_default.ensures c.keep.ensures
-
 pub returns : goal.returns
-returns g c = gathers_part c.in-Some.ensures c.keep-2.ensures
+returns g c = record { line_after = rw (sym c.split_line.ensures.before) c.keep.ensures; next = c.split_line.ensures.behind }
