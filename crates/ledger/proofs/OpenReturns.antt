@@ -1,12 +1,12 @@
 -- The returns of `new` and `open`: what each gives, from what the code has there. Assumes nothing.
-use Rattle.ledger.proofs.Kit.{◌≡◌, refl, sym, ap, ◌∙◌, subst, Bool, true, false, not, ◌&&◌, cond, List, [], ◌∷◌, ℕ, ◌*◌, ◌/◌, ◌≤◌, ◌<◌, arith, le-leb, lt-leb, lt-ltb, le-ltb, eq-eqb, ne_eqb, eqb, leb, leb-true, length}
+use Rattle.ledger.proofs.Kit.{◌≡◌, refl, sym, ap, ◌∙◌, subst, Bool, true, false, not, ◌&&◌, cond, List, [], ◌∷◌, ℕ, ◌*◌, ◌/◌, ◌≤◌, ◌<◌, arith, le-leb, lt-leb, lt-ltb, le-ltb, eqb, leb, leb-true, length}
 use Rattle.positions.proofs.Replies.{numbers_refusal}
 use Rattle.positions.specs.Positions.{Positions, none}
 use Rattle.positions.specs.Runs.{Ascending}
 use Rattle.positions.proofs.Runs.{covered_above}
 use Rattle.range_bitset.specs.Represents.{Represents}
 use Rattle.range_bitset.specs.Answers.{allowed_capacity, storage_refusal}
-use Rattle.std.proofs.Common.{Result, Ok, Err}
+use Rattle.std.proofs.Common.{Ok, Err}
 use Rattle.positions.proofs.Bools.{and_left, and_right}
 use Rattle.answers.specs.Refusals.{number_of}
 use Rattle.answers.specs.declared.Refusal.{Refusal}
@@ -27,9 +27,9 @@ use Rattle.positions.specs.Replies.{numbers, refused_with, number, nothing, refu
 use Rattle.saved_list.specs.Answers.{of_header, header_reply, of_length_check, length_reply, of_run_check, runs_reply}
 use Rattle.saved_list.specs.declared.Header.{Header}
 use Rattle.saved_list.specs.declared.BadRun.{BadRun}
-use Rattle.saved_list.proofs.Bytes.{headed_yes, yes_headed, whole_yes, yes_whole, whole_held}
+use Rattle.saved_list.proofs.Bytes.{yes_headed, yes_whole, whole_held}
 use Rattle.saved_list.proofs.Lists.{runs_length, all_assigned}
-use Rattle.saved_list.proofs.GoodFiles.{HeaderRead, fields_read, header_refused, length_whole, length_refused, FirstBad, runs_ascending, runs_refused, ascending_count}
+use Rattle.saved_list.proofs.GoodFiles.{HeaderRead, fields_read, length_whole, FirstBad, runs_ascending, runs_refused, ascending_count}
 use Rattle.ledger.specs.declared.Ledger.{Ledger}
 use Rattle.ledger.specs.declared.NotOpened.TheVariants as why
 

@@ -1,6 +1,6 @@
 -- Laws for code that gives runs one value, one run after the other: one run more, the runs read from a journal or from a
 -- saved list, and what taking a call's changed runs back changes. Assumes nothing.
-use Rattle.ledger.proofs.Kit.{◌≡◌, refl, sym, ap, ◌∙◌, subst, Bool, true, false, not, ◌&&◌, ◌||◌, or-false, List, [], ◌∷◌, ◌++◌, append_assoc, ℕ, zero, suc, ◌+◌, ◌*◌, ◌-◌, ◌%◌, ◌≤◌, ◌<◌, zero-add, add-one, arith, lt-ltb, ltb-true, ltb-false, leb-true, leb-false, ne_eqb, eqb, ltb, leb, length, get_or, take, get_or-take}
+use Rattle.ledger.proofs.Kit.{◌≡◌, refl, sym, ap, ◌∙◌, subst, Bool, true, false, not, ◌&&◌, ◌||◌, or-false, List, [], ◌∷◌, ◌++◌, append_assoc, ℕ, zero, suc, ◌+◌, ◌*◌, ◌-◌, ◌%◌, ◌≤◌, zero-add, add-one, arith, lt-ltb, ltb-true, ltb-false, leb-true, leb-false, ne_eqb, eqb, ltb, leb, length, get_or, take, get_or-take}
 use Rattle.positions.specs.Positions.{Positions, assigned, changed_count, lacking}
 use Rattle.positions.specs.Runs.{Run, run, runs, changed_runs, assigned_runs, lengths, Ascending}
 use Rattle.positions.proofs.Bools.{same₄}

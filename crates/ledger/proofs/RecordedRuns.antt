@@ -1,6 +1,6 @@
 -- Laws for marking and clearing: how many journal numbers a call can need, and the runs that it changes written into the journal, with
 -- its closing number behind them. Assumes nothing.
-use Rattle.ledger.proofs.Kit.{◌≡◌, ap₂, ◌∙◌, ◌⊎◌, inl, inr, Bool, List, [], ◌∷◌, ◌++◌, append_assoc, ℕ, suc, ◌+◌, ◌*◌, ◌%◌, ◌≤◌, ◌<◌, arith, length, get_or, take, set, length-set, get_or-set_other, take-suc-set}
+use Rattle.ledger.proofs.Kit.{◌≡◌, ◌∙◌, ◌⊎◌, inl, inr, Bool, List, [], ◌∷◌, ◌++◌, append_assoc, ℕ, suc, ◌+◌, ◌*◌, ◌≤◌, ◌<◌, arith, length, get_or, take, set, length-set, get_or-set_other, take-suc-set}
 use Rattle.positions.specs.Positions.{Positions, one}
 use Rattle.positions.specs.Runs.{run, changed_runs}
 use Rattle.positions.proofs.Changes.{changed_few}

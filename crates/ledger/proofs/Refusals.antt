@@ -12,7 +12,7 @@ use Rattle.answers.proofs.Numbers.{number_some}
 use Rattle.range_bitset.specs.Answers.{allowed_capacity, good_head, head_refusal, storage_refusal}
 use Rattle.range_bitset.proofs.AcceptedHeads.{good_bounds, head_declined, storage_accepted, accepted_storage, storage_short, storage_three, represented_good, fresh_good}
 use Rattle.ledger.specs.Machine.{Machine, Call, range, back, wipe, step}
-use Rattle.ledger.specs.Memory.{Memory, memory, call_refusal, Holds, good_ledger, lent_enough, refusal_for, lent_refusal, wipe_refusal}
+use Rattle.ledger.specs.Memory.{Memory, call_refusal, Holds, good_ledger, lent_enough, refusal_for, lent_refusal, wipe_refusal}
 use Rattle.ledger.specs.Entries.{CallEnsures, flag_after, new_head}
 use Rattle.ledger.specs.declared.Ledger.{Ledger}
 use Rattle.ledger.proofs.Machines.{stayed}

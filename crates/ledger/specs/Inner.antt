@@ -1,6 +1,6 @@
 -- Contracts of the inner functions. No caller of the crate sees them, and nothing here need be believed: the entries'
 -- promises speak of none of it. Assumes nothing.
-use Rattle.std.specs.Prelude.{◌≡◌, ℕ, zero, suc, ◌+◌, ◌-◌, ◌*◌, ◌/◌, ◌%◌, ◌<◌, ◌≤◌, min, Bool, true, false, cond, ◌&&◌, ◌||◌, ◌⊎◌, List, [], ◌∷◌, ◌++◌, length, take, ◌==◌, nat_lt, nat_le, slice_index, Option, Some, None, Result, Ok, Err}
+use Rattle.std.specs.Prelude.{◌≡◌, ℕ, zero, suc, ◌+◌, ◌-◌, ◌*◌, ◌/◌, ◌%◌, ◌<◌, ◌≤◌, min, Bool, false, cond, ◌&&◌, ◌||◌, ◌⊎◌, List, [], ◌∷◌, ◌++◌, length, take, ◌==◌, nat_lt, nat_le, slice_index, Option, Some, None, Result, Ok, Err}
 use Rattle.positions.specs.Positions.{Positions, assigned, changed_count}
 use Rattle.positions.specs.Runs.{Run, run, changed_runs, assigned_runs}
 use Rattle.range_bitset.specs.Layout.{SamePast}

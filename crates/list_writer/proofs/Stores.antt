@@ -1,5 +1,5 @@
 -- Laws of numbers stored into a list one after the other: what stands there, and that all else is as it was. Assumes nothing.
-use Rattle.list_writer.proofs.Kit.{◌≡◌, refl, sym, ap, ap₂, ◌∙◌, subst, ◌⊎◌, inl, inr, List, [], ◌∷◌, ◌++◌, ℕ, suc, ◌+◌, ◌/◌, ◌%◌, ◌≤◌, ◌<◌, add-zero, zero-add, add-one, arith, length, get_or, take, drop, set, length-append, length-sets, sets-eq, length-take-le, take_at, get_or-set_other, drop-set-lt}
+use Rattle.list_writer.proofs.Kit.{◌≡◌, refl, sym, ap, ◌∙◌, ◌⊎◌, inl, inr, List, [], ◌∷◌, ◌++◌, ℕ, suc, ◌+◌, ◌/◌, ◌%◌, ◌≤◌, ◌<◌, add-zero, zero-add, arith, length, get_or, take, drop, set, length-append, length-sets, sets-eq, length-take-le, take_at, get_or-set_other, drop-set-lt}
 use Rattle.saved_list.specs.Format.{mark, bytes16, bytes32, header_bytes, run_bytes}
 use Rattle.positions.specs.Runs.{run}
 use Rattle.set_runs.proofs.RunWalks.{Puts}

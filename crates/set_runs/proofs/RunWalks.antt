@@ -9,7 +9,6 @@ use Rattle.positions.proofs.Runs.{runs_empty}
 use Rattle.range_bitset.specs.Represents.{Represents}
 use Rattle.positions.specs.Replies.{of_place}
 use Rattle.std.proofs.Common.{Option, Some, None}
-use Rattle.std.specs.Option.{is_some}
 use Rattle.answers.specs.Refusals.{of_position}
 use Rattle.range_bitset.specs.Answers.{range_refusal}
 use Rattle.range_bitset.specs.declared.RangeBitset.{RangeBitset}
@@ -17,6 +16,9 @@ use Rattle.range_bitset.proofs.AcceptedHeads.{range_accepted}
 use Rattle.std.specs.declared.ops.Range.{Range}
 use Rattle.set_runs.specs.Runs.{GivesRun}
 use Rattle.set_runs.specs.declared.Runs.{Runs}
+use Rattle.std.specs.declared.iter.Take.{Take}
+use Rattle.std.specs.Iterator.{YieldsThen}
+use Rattle.std.specs.Iterator.Adapters.{take_steps}
 use Rattle.set_runs.specs.Walks.{Finds, FindsRun, RunsFit, CountsRuns, WritesRuns}
 
 -- ---- a search, read as a place
@@ -66,6 +68,9 @@ pub record Along (h : RangeBitset) (st : List ℕ) (e : ℕ) (v : Bool) (x : Run
   pub end_is : x.end ≡ e
   pub value_is : x.value ≡ v
 
+pub along_itself : (x : Runs) → Along x.set x.storage.now x.end x.value x
+along_itself x = record { set_is = refl; storage_is = refl; end_is = refl; value_is = refl }
+
 module _ (h : RangeBitset) (st : List ℕ) (e : ℕ) (v : Bool) (x : Runs) (a : Along h st e v x) where
   pub along_next : (r : Option (Range ℕ)) (x' : Runs) → GivesRun x r x' → Along h st e v x'
   along_next r x' g =
@@ -107,15 +112,20 @@ pub counting_most : (h : RangeBitset) (st : List ℕ) (a e : ℕ) (v : Bool) (mo
     → n ≤ most → most ≤ n → Counting h st a e v n from → CountsRuns h st a e v most n
 counting_most h st a e v most n from l m k = record { most_runs = l; counted = λ z s r. omega (arith, k z s r) }
 
--- one step of the iterator, and where it has no run left
-module _ (h : RangeBitset) (st : List ℕ) (a e : ℕ) (v : Bool) (most n : ℕ) (x x' : Runs) (w : Along h st e v x) where
-  pub counted_one : (r : Option (Range ℕ)) → GivesRun x r x' → is_some r ≡ true → Counting h st a e v n x.from → Counting h st a e v (n + 1) x'.from
-  counted_one (Some q) g y k = let f = along_some h st e v x w q x' g in counting_next h st a e v n x.from f.0 x'.from f.3 k
-  counted_one None g y k = cc
-
-  pub counted_all : (r : Option (Range ℕ)) → GivesRun x r x' → is_some r ≡ false → n ≤ most → Counting h st a e v n x.from → CountsRuns h st a e v most n
-  counted_all (Some q) g y l k = cc
-  counted_all None g y l k = counting_done h st a e v most n x.from (along_none h st e v x w x' g) l k
+-- n are counted, and then the runs xs that the iterator gives, of which it takes as many as are still to be counted
+pub counted : (h : RangeBitset) (st : List ℕ) (a e : ℕ) (v : Bool) (most n r : ℕ) (xs : List (Range ℕ)) (x u : Take Runs) → Along h st e v x.iter
+    → n + x.n ≡ most → r ≡ n + length xs → Counting h st a e v n x.iter.from → YieldsThen (take_steps GivesRun) x xs None u → CountsRuns h st a e v most r
+counted h st a e v most n r [] x u w m l k (t, same, g) = let same_number : n ≡ r = omega (arith, l) in subst (CountsRuns h st a e v most) same_number (by (dec_lt 0 x.n))
+  where
+    by : Dec (0 < x.n) → CountsRuns h st a e v most n
+    by (yes p) =
+        let ends = subst (λ (y : Take Runs). take_steps GivesRun y None u) (sym same) g p in
+        counting_done h st a e v most n x.iter.from (along_none h st e v x.iter w u.iter ends) (omega arith) k
+    by (no p) = counting_most h st a e v most n x.iter.from (omega arith) (omega arith) k
+counted h st a e v most n r (q ∷ xs) x u w m l k (t, (x', (g, c), y), z) =
+    let f = along_some h st e v x.iter w q x'.iter g in
+    counted h st a e v most (n + 1) r xs x' u (along_next h st e v x.iter w (Some q) x'.iter g) (omega (arith, m, c)) (omega (arith, l))
+    (counting_next h st a e v n x.iter.from f.0 x'.iter.from f.3 k) (t, y, z)
 
 -- ---- fitting
 

@@ -1,6 +1,6 @@
 -- The walk over the runs that giving a..e the value v changes: a search, the run found by two, whether they are few enough, how many they are,
 -- and what those above have written of them. At v = false these are the set's own runs. Assumes nothing.
-use Rattle.std.specs.Prelude.{◌≡◌, ◌⊎◌, Bool, true, List, ◌++◌, ℕ, ◌*◌, ◌-◌, ◌≤◌, ◌<◌, min, leb, length, get_or, take, not, Option, Some, None}
+use Rattle.std.specs.Prelude.{◌≡◌, ◌⊎◌, Bool, true, List, ◌++◌, ℕ, ◌*◌, ◌-◌, ◌≤◌, ◌<◌, min, leb, length, get_or, take, not, Option, Some}
 use Rattle.positions.specs.Positions.{Positions, first}
 use Rattle.positions.specs.Replies.{of_place}
 use Rattle.positions.specs.Runs.{Run, place_or, changed_runs, encoded}

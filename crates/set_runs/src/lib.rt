@@ -68,12 +68,6 @@ impl Runs<'_> {
     fn count_up_to(self, most: usize) -> usize
         ensures { CountsRuns self.entry.set self.entry.storage.now self.entry.from self.entry.end self.entry.value most result }
     {
-        let mut runs = self;
-        for n in 0..most {
-            if runs.next().is_none() {
-                return n;
-            }
-        }
-        most
+        self.take(most).count()
     }
 }

@@ -1,5 +1,4 @@
 -- `put_header` meets its contract: the letters, then the three numbers behind them. Assumes nothing.
-use Rattle.list_writer.proofs.Kit.{◌≡◌}
 use Rattle.list_writer.proofs.Stores.{stored_header, stored_word}
 use Rattle.list_writer.proofs.put_header.Goals as goal
 

@@ -1,5 +1,5 @@
 -- `write` meets its contract: each return by its law. Assumes nothing.
-use Rattle.list_writer.proofs.Kit.{arith, refl, sym, ◌∙◌}
+use Rattle.list_writer.proofs.Kit.{arith, refl, sym}
 use Rattle.range_bitset.proofs.AcceptedHeads.{storage_accepted, good_bounds}
 use Rattle.list_writer.proofs.WriteReturns.{declined_head, declined_header, declined_runs, written}
 use Rattle.answers.proofs.Numbers.{passed_on}

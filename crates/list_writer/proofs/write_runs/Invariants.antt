@@ -1,6 +1,6 @@
 -- The loop's invariant in `write_runs`: the iterator walks over the set's runs; `written` are written, and those that it has left lie
 -- from where it stands on (`Writing`). Assumes nothing.
-use Rattle.list_writer.proofs.Kit.{false, ◌+◌, ◌*◌, ◌≡◌}
+use Rattle.list_writer.proofs.Kit.{◌+◌, ◌*◌, ◌≡◌}
 use Rattle.saved_list.specs.Format.{run_bytes}
 use Rattle.set_runs.proofs.RunWalks.{Along, Writing}
 use Rattle.list_writer.proofs.write_runs.Given as goal

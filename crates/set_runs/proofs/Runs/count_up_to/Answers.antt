@@ -1,16 +1,10 @@
--- `count_up_to` meets its contract. Assumes nothing.
-use Rattle.set_runs.proofs.RunWalks.{along_next, counted_one, counted_all}
+-- `count_up_to` meets its contract, by the runs that were counted. Assumes nothing.
+use Rattle.set_runs.proofs.RunWalks.{along_itself, counted, counting_start}
 use Rattle.set_runs.proofs.Kit.{arith}
 use Rattle.set_runs.proofs.Runs.count_up_to.Goals as goal
 
-pub returns-then-is_none : goal.returns-then-is_none
-returns-then-is_none c =
-    let inv = c.loop-n.invariant in
-    counted_all _ _ _ _ _ _ _ _ _ inv.0 _ c.next.ensures.steps c.if-is_none.ensures (omega arith) inv.1
-
-pub loop-n-preserved : goal.loop-n-preserved
-loop-n-preserved c =
-    let inv = c.loop-n.invariant in (
-      along_next _ _ _ _ _ inv.0 _ _ c.next.ensures.steps,
-      counted_one _ _ _ _ _ 0 _ _ _ inv.0 _ c.next.ensures.steps c.if-is_none.ensures inv.1,
-    )
+pub returns : goal.returns
+returns c =
+    let (xs, (u, y), n) = c.count.ensures.ran in
+    counted _ _ _ _ _ _ 0 _ xs c.take.result u (rw c.take.ensures.source (along_itself c.args.self)) (omega (arith, c.take.ensures.count)) (omega (arith, n))
+    (rw c.take.ensures.source (counting_start _ _ _ _ _)) y

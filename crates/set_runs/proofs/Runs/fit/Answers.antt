@@ -1,5 +1,5 @@
 -- `fit` meets its contract: a short range by its length, a long one by the count. Assumes nothing.
-use Rattle.set_runs.proofs.RunWalks.{fits_short, fits_counted}
+use Rattle.set_runs.proofs.RunWalks.{fits_short}
 use Rattle.set_runs.proofs.Kit.{arith, le-leb}
 use Rattle.set_runs.proofs.Runs.fit.Goals as goal
 
