@@ -100,7 +100,7 @@ const POPULATIONS: [Case; 4] = [
     ("the head's population one more", 68, &SOUND),
 ];
 
-// Prints what the audit says of a head and its storage.
+// Prints what the audit says of a head and its storage. Not by `say`: a line here is a name with its answer.
 fn say_audit(rt: &impl Print, name: &str, head: RangeBitset, storage: &[u64]) -> io::Result<()> {
     match audit::audit(head, storage) {
         Ok(true) => println!(rt; "{name}: yes"),

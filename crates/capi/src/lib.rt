@@ -3,6 +3,7 @@
 // range_bitset, or the crate audit, and hands its answer over in those numbers, by the crate capi_told, and nothing else:
 // specs/Exports.antt. The ledger's exports are the crate capi_ledger, apart: in one archive with them the searches would be
 // compiled for two callers, and slower.
+// They are alike but for the call: C has no generics, and each name has its own promise.
 // Assumes what the header says that the caller owes, and nothing of heads, numbers and arguments: no export has a `requires`.
 #![tactic(auto)]
 

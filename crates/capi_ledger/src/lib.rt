@@ -1,7 +1,7 @@
 // The entries of the ledger, and of the writer of saved lists, for C and C++: include/kladomyne.h has the same structs and calls, in C's
 // words. A head goes in and comes back by value; a lent slice is a pointer and a count; an answer is a struct of numbers. Each export
 // calls the entry of its name in ledger, or the crate list_writer, and hands its answer over in those numbers, and nothing else:
-// specs/LedgerTold.antt has the definitions.
+// specs/LedgerTold.antt has the definitions. They are alike but for the call: C has no generics, and each name has its own promise.
 // Assumes what the header says that the caller owes, and nothing of heads, numbers and arguments: no export has a `requires`.
 #![tactic(auto)]
 
@@ -24,7 +24,7 @@ pub struct KladoLedger {
     pub used: u32,
 }
 
-// What the calls give that change a ledger.
+// What the calls give that change a ledger. C has no Result, so 0 or the refusal stands beside the value; so in the next.
 #[repr(C)]
 #[derive(Clone, Copy, Debug, PartialEq, Eq)]
 pub struct KladoLedgerAnswer {

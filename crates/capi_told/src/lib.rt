@@ -18,7 +18,7 @@ pub struct KladoSet {
     pub allocated: bool,
 }
 
-// What the calls give that make or change a set.
+// What the calls give that make or change a set. C has no Result, so 0 or the refusal stands beside the value; so in the next two.
 #[repr(C)]
 #[derive(Clone, Copy, Debug, PartialEq, Eq)]
 pub struct KladoSetAnswer {
@@ -125,7 +125,7 @@ impl From<Result<Option<usize>, Refusal>> for KladoFound {
 }
 
 impl KladoSetAnswer {
-    // What a call gives that changes a set: after a refused one the head is what it was.
+    // What a call gives that changes a set: after a refused one the head is what it was. The ledger's `after` is apart, for another of C's structs.
     pub fn after(head: KladoSet, change: Result<Changed<u32, RangeBitset>, Refusal>) -> Self
         ensures { result ≡ told_assigned head change }
     {

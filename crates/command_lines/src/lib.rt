@@ -29,7 +29,7 @@ pub enum Command {
     Wipe,
 }
 
-// What is printed. A refusal is the number that stands in its line.
+// What is printed. A refusal is the number that stands in its line: a `Refusal` here would be turned into that number at the same place.
 #[derive(Clone, Copy, Debug, PartialEq, Eq)]
 pub enum Answer {
     Number(u32),

@@ -3,6 +3,9 @@
 // lent with each call. Work is bounded by the ends of the range, the blocks and the runs changed, never by the words of the capacity.
 // Assumes nothing of its callers: no entry has a `requires`.
 //
+// 01 lends storage and journal with each call, and so does C: they stand beside the head, and not in a struct with it. 01 names the
+// four calls that mark and clear; each is one line over `assign` or `assign_point`.
+//
 // This file has the head and the entries; record has what a marking writes into the journal, runs the runs given a value again.
 #![tactic(auto)]
 

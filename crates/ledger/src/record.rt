@@ -27,6 +27,7 @@ impl Ledger {
         requires { (used + 2 * most ≤ length journal.old) × (used + 2 * most ≤ 16384) }
         ensures { WritesRuns pair runs.entry.set runs.entry.storage.now runs.entry.from runs.entry.end runs.entry.value most result used (used + 2 * result) journal.old journal.new }
     {
+        // counted, and not by `enumerate`, which does not tell how many came
         let mut written = 0;
         for run in runs.take(most as usize) {
             let slot = (used + 2 * written) as usize;

@@ -1,5 +1,6 @@
 // The ledger's calls in the form where the head is lent and changed: each calls the by-value core, stores the head that comes
 // back and answers what the core answered. Its promise is the core's own record, with the lent head at entry and at exit.
+// 01 names each form, so the three calls stay in both: one function of any call would hide those three lines behind a closure.
 // Assumes nothing of its callers: no entry has a `requires`.
 #![tactic(auto)]
 
@@ -107,7 +108,7 @@ pub fn wipe_through(head: Ledger, storage: &mut [u64]) -> Result<Changed<u32, Le
     Ok(Changed { answer, head: lent })
 }
 
-// The answers of two calls, and the head after them.
+// The answers of two calls, and the head after them: named, where a tuple would not say which of two equal types comes first.
 #[derive(Clone, Copy, Debug, PartialEq, Eq)]
 pub struct Two {
     pub first: Result<u32, Refusal>,

@@ -96,7 +96,7 @@ pub fn replay_new(
     Ok(replay(head, storage, journal, calls, answers))
 }
 
-// The same from a ledger opened on a saved list.
+// The same from a ledger opened on a saved list. Apart from the first, since an opening may fail in more ways.
 pub fn replay_open(
     file: &[u8],
     limit: usize,

@@ -39,6 +39,7 @@ fn write_runs(file: &mut [u8], runs: Runs, most: usize) -> usize
     requires { 11 + 8 * most ≤ length file.old }
     ensures { WritesRuns run_bytes runs.entry.set runs.entry.storage.now runs.entry.from runs.entry.end runs.entry.value most result 11 (11 + 8 * result) file.old file.new }
 {
+    // counted, and not by `enumerate`, which does not tell how many came
     let mut written = 0;
     for run in runs.take(most) {
         let at = HEADER_SIZE + RUN_SIZE * written;

@@ -161,7 +161,7 @@ pub fn check_runs(file: &[u8]) -> Result<(), BadRun>
     Ok(())
 }
 
-// Two runs in turn, and the index that follows them.
+// Two runs in turn, and the index that follows them: named, where a tuple would not say which of two equal types comes first.
 #[derive(Clone, Copy, Debug, PartialEq, Eq)]
 pub struct TwoRuns {
     pub first: Option<Run>,

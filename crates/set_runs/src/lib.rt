@@ -36,7 +36,7 @@ impl Iterator for Runs<'_> {
     }
 }
 
-// The low 32 bits.
+// The low 32 bits. An `as` has to keep the number, so they are taken first.
 fn low32(position: usize) -> u32
     ensures { result ≡ position % 2 ^ 32 }
 {

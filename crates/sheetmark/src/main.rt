@@ -26,7 +26,7 @@ pub struct Performed {
     pub ledger: Option<Ledger>,
 }
 
-// What a call of a ledger leaves: a refused one leaves the ledger as it was.
+// What a call of a ledger leaves: a refused one leaves the ledger as it was. No `From`, since it takes the head too.
 fn of_call(head: Ledger, done: Result<Changed<u32, Ledger>, Refusal>) -> Performed
     ensures { (result.answer ≡ answer_of (of_called done)) × (result.ledger ≡ Some (head_after head done)) }
 {
@@ -169,6 +169,7 @@ fn answer_part(
 {
     let mut current = ledger;
     let mut rest = text;
+    // no iterator: each turn lends the line to the next gathering
     while let Some(next) = command_lines::gather(rest, line) {
         current = answer_line(current, line.as_slice(), out, storage, journal);
         line.clear();
@@ -238,6 +239,7 @@ fn serve(
 {
     let mut ledger = None;
     let mut line = Line::new();
+    // counted, since nothing else falls in a loop over any reader
     let mut reads = 0u64;
     while reads < u64::MAX {
         let n = read_part(input, buffer);
