@@ -1,13 +1,14 @@
 -- Laws for code that gives runs one value, one run after the other: one run more, the runs read from a journal or from a
 -- saved list, and what taking a call's changed runs back changes. Assumes nothing.
-use Rattle.ledger.proofs.Kit.{◌≡◌, refl, sym, ap, ◌∙◌, subst, Bool, true, false, not, ◌&&◌, ◌||◌, or-false, List, [], ◌∷◌, ◌++◌, append_assoc, ℕ, zero, suc, ◌+◌, ◌*◌, ◌-◌, ◌%◌, ◌≤◌, zero-add, add-one, arith, lt-ltb, ltb-true, ltb-false, leb-true, leb-false, ne_eqb, eqb, ltb, leb, length, get_or, take, get_or-take}
+use Rattle.ledger.proofs.Kit.{◌≡◌, refl, sym, ap, ◌∙◌, subst, Bool, true, false, not, ◌&&◌, ◌||◌, or-false, List, [], ◌∷◌, ◌++◌, append_assoc, ℕ, zero, suc, ◌+◌, ◌*◌, ◌-◌, ◌%◌, ◌≤◌, ◌<◌, zero-add, add-one, arith, lt-ltb, ltb-true, ltb-false, leb-true, leb-false, ne_eqb, eqb, ltb, leb, length, length-append, get_or, get_or-append, get_or-append-add, take, get_or-take}
 use Rattle.positions.specs.Positions.{Positions, assigned, changed_count, lacking}
 use Rattle.positions.specs.Runs.{Run, run, runs, changed_runs, assigned_runs, lengths, Ascending}
 use Rattle.positions.proofs.Bools.{same₄}
 use Rattle.positions.proofs.Runs.{runs_ascending, runs_empty}
 use Rattle.positions.proofs.Changes.{assigned_runs_then, back_changes, changed_lengths}
 use Rattle.range_bitset.specs.Represents.{Represents, capacity_of}
-use Rattle.std.proofs.Common.{Ok, Err}
+use Rattle.std.proofs.Common.{Ok, Err, drop, length-drop, length-take-le}
+use Rattle.std.proofs.lemmas.List.{get_or-drop}
 use Rattle.positions.specs.Replies.{number, numbers}
 use Rattle.answers.specs.Refusals.{answer_in, head_after}
 use Rattle.range_bitset.specs.Answers.{Counted, Assigned, of_assigned, storage_refusal, range_refusal}
@@ -114,20 +115,56 @@ read_more j at (suc n) =
     rw p (ap (λ (l : List Run). run (get_or j at 0) (get_or j (at + 1) 0) ∷ l) (read_more j (at + 2) n))
 
 -- one turn of a loop over them, and its end
-read_turn : (j : List ℕ) (at i slot : ℕ) → slot ≡ at + 2 * i → read_runs j at (i + 1) ≡ read_runs j at i ++ (run (get_or j slot 0) (get_or j (slot + 1) 0) ∷ [])
-read_turn j at i slot e = rw (add-one i, e) (read_more j at i)
+read_turn : (j : List ℕ) (at i start end : ℕ) → start ≡ get_or j (at + 2 * i) 0 → end ≡ get_or j (at + 2 * i + 1) 0
+    → read_runs j at (i + 1) ≡ read_runs j at i ++ (run start end ∷ [])
+read_turn j at i start end a b = rw (add-one i, a, b) (read_more j at i)
 
 module _ (h : RangeBitset) (st j : List ℕ) (at i : ℕ) (v : Bool) (n : ℕ) (h₁ : RangeBitset) (st₁ : List ℕ)
     (p : AssignsRuns h st (read_runs j at i) v n h₁ st₁) where
-  pub assigns_turn : length st₁ ≡ length st → (slot : ℕ) → slot ≡ at + 2 * i → (d : Assigned) (st₂ : List ℕ)
-      → AssignEnsures h₁ st₁ (get_or j slot 0) (get_or j (slot + 1) 0) v d st₂ → (c m : ℕ) → c ≡ count_in (answer_in d) → m ≡ (n + c) % 4294967296
+  pub assigns_turn : length st₁ ≡ length st → (start end : ℕ) → start ≡ get_or j (at + 2 * i) 0 → end ≡ get_or j (at + 2 * i + 1) 0
+      → (d : Assigned) (st₂ : List ℕ) → AssignEnsures h₁ st₁ start end v d st₂ → (c m : ℕ) → c ≡ count_in (answer_in d) → m ≡ (n + c) % 4294967296
       → AssignsRuns h st (read_runs j at (i + 1)) v m (head_after h₁ d) st₂
-  assigns_turn long slot k d st₂ e c m ec em =
-      subst (λ (x : List Run). AssignsRuns h st x v m (head_after h₁ d) st₂) (sym (read_turn j at i slot k))
-      (assigns_more h st (read_runs j at i) v n h₁ st₁ p long (run (get_or j slot 0) (get_or j (slot + 1) 0)) d st₂ e c m ec em)
+  assigns_turn long start end a b d st₂ e c m ec em =
+      subst (λ (x : List Run). AssignsRuns h st x v m (head_after h₁ d) st₂) (sym (read_turn j at i start end a b))
+      (assigns_more h st (read_runs j at i) v n h₁ st₁ p long (run start end) d st₂ e c m ec em)
 
   pub assigns_all : (k : ℕ) → i ≡ k → AssignsRuns h st (read_runs j at k) v n h₁ st₁
   assigns_all k e = subst (λ (x : ℕ). AssignsRuns h st (read_runs j at x) v n h₁ st₁) e p
+
+-- the pairs of n runs that are left where i are read, from place `at` on
+pub record PairsLeft (j : List ℕ) (at n i : ℕ) (rest : List ℕ) : Type 0 where
+  pub long : length rest + 2 * i ≡ 2 * n
+  pub numbers : (k : ℕ) → k < length rest → get_or rest k 0 ≡ get_or j (at + 2 * i + k) 0
+
+pub pairs_all : (j : List ℕ) (at n m : ℕ) (rest : List ℕ) → at + 2 * n ≤ length j → m ≡ 2 * n → rest ≡ take m (drop at j) → PairsLeft j at n 0 rest
+pairs_all j at n m rest l q e =
+    let short : m ≤ length (drop at j) = omega (arith, l, q, length-drop at j) in
+    let long : length rest ≡ m = ap length e ∙ length-take-le m (drop at j) short in
+    record { long = omega (arith, long, q); numbers = λ k u. numbers k (omega (arith, long)) }
+  where
+    numbers : (k : ℕ) → k < m → get_or rest k 0 ≡ get_or j (at + 2 * 0 + k) 0
+    numbers k u =
+        let place : at + k ≡ at + 2 * 0 + k = omega arith in
+        ap (λ (z : List ℕ). get_or z k 0) e ∙ get_or-take m (drop at j) k 0 u ∙ get_or-drop at j k 0 ∙ ap (λ (z : ℕ). get_or j z 0) place
+
+-- the pair x is read
+pub pairs_next : (j : List ℕ) (at n i : ℕ) (rest x rest' : List ℕ) → PairsLeft j at n i rest → rest ≡ x ++ rest' → length x ≡ 2
+    → PairsLeft j at n (i + 1) rest' × (get_or x 0 0 ≡ get_or j (at + 2 * i) 0) × (get_or x 1 0 ≡ get_or j (at + 2 * i + 1) 0)
+pairs_next j at n i rest x rest' p e l =
+    let long : length rest ≡ length x + length rest' = ap length e ∙ length-append x rest' in
+    let first : at + 2 * i + 0 ≡ at + 2 * i = omega arith in (
+      record { long = omega (arith, p.long, long, l); numbers = λ k u. behind k (omega (arith, long)) },
+      rw first at (in_pair 0 (omega (arith, l)) (omega (arith, long, l))),
+      in_pair 1 (omega (arith, l)) (omega (arith, long, l)),
+    )
+  where
+    in_pair : (k : ℕ) → k < length x → k < length rest → get_or x k 0 ≡ get_or j (at + 2 * i + k) 0
+    in_pair k u w = sym (get_or-append x rest' 0 k u) ∙ ap (λ (z : List ℕ). get_or z k 0) (sym e) ∙ p.numbers k w
+
+    behind : (k : ℕ) → length x + k < length rest → get_or rest' k 0 ≡ get_or j (at + 2 * (i + 1) + k) 0
+    behind k u =
+        let place : at + 2 * i + (length x + k) ≡ at + 2 * (i + 1) + k = omega (arith, l) in
+        sym (get_or-append-add x rest' k 0) ∙ ap (λ (z : List ℕ). get_or z (length x + k) 0) (sym e) ∙ (rw place at (p.numbers (length x + k) u))
 
 -- they hang on the numbers before their end alone
 pub read_take : (j : List ℕ) (u at n : ℕ) → at + 2 * n ≤ u → read_runs (take u j) at n ≡ read_runs j at n

@@ -34,10 +34,10 @@ impl Ledger {
             answer: 0u32,
             head: set,
         };
-        for i in 0..runs {
-            let slot = (first + 2 * i) as usize;
-            let start = journal[slot] as usize;
-            let end = journal[slot + 1] as usize;
+        let last = first + 2 * runs;
+        for run in journal[first as usize..last as usize].chunks_exact(2) {
+            let start = run[0] as usize;
+            let end = run[1] as usize;
             if let Ok(done) = all.head.assign(storage, start, end, value) {
                 all.answer = all.answer.wrapping_add(done.answer);
                 all.head = done.head;
