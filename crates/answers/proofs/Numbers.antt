@@ -1,5 +1,5 @@
 -- No refusal has the number 0; and what the exit of a `?` returns. Assumes nothing.
-use Rattle.std.proofs.Common.{◌≡◌, arith, Result, Ok, Err, ap, ◌∙◌, IsErrAnd}
+use Rattle.std.proofs.Common.{◌≡◌, arith, Result, Err, ap, ◌∙◌, IsErrAnd}
 use Rattle.std.proofs.lemmas.Result.{err_from_is_err_and}
 use Rattle.answers.specs.Refusals.{number_of}
 use Rattle.answers.specs.declared.Refusal.{Refusal}

@@ -42,3 +42,14 @@ pub struct Changed<T, H> {
     pub answer: T,
     pub head: H,
 }
+
+impl<T, H: Copy> Changed<T, H> {
+    // Where the caller keeps its head in a place of its own: the head goes there, and the answer is given.
+    pub fn store(self, head: &mut H) -> T
+        ensures answer { result ≡ self.answer }
+        ensures head { head.new ≡ self.head }
+    {
+        *head = self.head;
+        self.answer
+    }
+}

@@ -44,8 +44,7 @@ pub fn assign_lent(
     ensures { CallEnsures (range start end value) (memory head.old storage.old journal.old) (of_counted result) (memory head.new storage.new journal.new) }
 {
     let done = assign(*head, storage, journal, start, end, value)?;
-    *head = done.head;
-    Ok(done.answer)
+    Ok(done.store(head))
 }
 
 // Take the last standing call back.
@@ -57,8 +56,7 @@ pub fn take_back_lent(
     ensures { CallEnsures back (memory head.old storage.old journal.now) (of_counted result) (memory head.new storage.new journal.now) }
 {
     let done = head.take_back(storage, journal)?;
-    *head = done.head;
-    Ok(done.answer)
+    Ok(done.store(head))
 }
 
 // Empty the set and the journal.
@@ -66,8 +64,7 @@ pub fn wipe_lent(head: &mut Ledger, storage: &mut [u64]) -> Result<u32, Refusal>
     ensures { (j : List ℕ) → CallEnsures wipe (memory head.old storage.old j) (of_counted result) (memory head.new storage.new j) }
 {
     let done = head.wipe(storage)?;
-    *head = done.head;
-    Ok(done.answer)
+    Ok(done.store(head))
 }
 
 // The lent form of marking behind a by-value one.

@@ -75,8 +75,7 @@ impl Call {
         ensures { CallEnsures (meant self) (memory head.old storage.old journal.old) (of_counted result) (memory head.new storage.new journal.new) }
     {
         let done = self.run(*head, storage, journal)?;
-        *head = done.head;
-        Ok(done.answer)
+        Ok(done.store(head))
     }
 }
 

@@ -35,16 +35,13 @@ fn say_found(
 }
 
 // A call that changes something: the head becomes the one that it gives, and stays where it is refused.
-fn say_changed<T: Into<u32>, H: Drop>(
+fn say_changed<T: Into<u32>, H: Copy>(
     rt: &impl Print,
     call: impl Display + Drop,
     done: Result<Changed<T, H>, Refusal>,
     head: &mut H,
 ) -> io::Result<()> {
-    let answer = done.map(|done| -> u32 {
-        *head = done.head;
-        done.answer.into()
-    });
+    let answer = done.map(|done| -> u32 { done.store(head).into() });
     say(rt, call, answer)
 }
 

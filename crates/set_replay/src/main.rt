@@ -5,7 +5,7 @@
 // Assumes that the kit's read and write do what they say.
 #![tactic(auto)]
 
-use answers::{Changed, Refusal};
+use answers::Refusal;
 use command_lines::Answer;
 use range_bitset::RangeBitset;
 use std::io::{self, BufRead, BufReader, BufWriter, Write};
@@ -46,12 +46,6 @@ fn parse(line: &str) -> Option<Call> {
     fields.next().is_none().then_some(call)
 }
 
-// The answer of a call that changes the set, whose head becomes the one that the call gives.
-fn taken<T>(head: &mut RangeBitset, done: Changed<T, RangeBitset>) -> T {
-    *head = done.head;
-    done.answer
-}
-
 // Makes a call; answers a number, or None where a search finds nothing.
 fn perform(
     head: &mut RangeBitset,
@@ -63,9 +57,9 @@ fn perform(
             *head = RangeBitset::new(capacity)?;
             head.capacity()?
         }
-        Call::Assign(start, end, value) => taken(head, head.assign(storage, start, end, value)?),
-        Call::Set(index, value) => taken(head, head.set(storage, index, value)?).into(),
-        Call::Clear => taken(head, head.clear(storage)?),
+        Call::Assign(start, end, value) => head.assign(storage, start, end, value)?.store(head),
+        Call::Set(index, value) => head.set(storage, index, value)?.store(head).into(),
+        Call::Clear => head.clear(storage)?.store(head),
         Call::Get(index) => head.get(storage, index)?.into(),
         Call::Count(start, end) => head.count(storage, start, end)?,
         Call::NextOne(from, end) => return head.next_one(storage, from, end),
