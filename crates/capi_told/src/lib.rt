@@ -74,18 +74,8 @@ impl From<Result<RangeBitset, Refusal>> for KladoSetAnswer {
     ghost from_gives = { λ answer told. told ≡ told_made answer };
 
     fn from(answer: Result<RangeBitset, Refusal>) -> KladoSetAnswer {
-        match answer {
-            Ok(set) => KladoSetAnswer {
-                refused: 0,
-                value: 0,
-                head: KladoSet::from(set),
-            },
-            Err(refusal) => KladoSetAnswer {
-                refused: u8::from(refusal) as u32,
-                value: 0,
-                head: KladoSet::default(),
-            },
-        }
+        let made = answer.map(|head| Changed { answer: 0, head });
+        KladoSetAnswer::after(KladoSet::default(), made)
     }
 }
 
