@@ -1,12 +1,35 @@
--- A range assigned in three pieces, as `assign_range` and `assign_whole_words` cut it: the low end, then the high end, then
--- what lies between. Assumes nothing.
-use Rattle.range_bitset.proofs.Kit.{◌≡◌, refl, sym, ◌∙◌, subst, Bool, List, ℕ, ◌+◌, ◌%◌, ◌^◌, ◌≤◌, ◌<◌, arith}
+-- A range in three pieces, as `assign_units` and `count_units` cut it: the low end, then the high end, then what lies between; and
+-- what is assigned by pieces. Assumes nothing.
+use Rattle.range_bitset.proofs.Kit.{◌≡◌, refl, sym, ◌∙◌, subst, Bool, List, ℕ, ◌+◌, ◌*◌, ◌%◌, ◌^◌, ◌≤◌, ◌<◌, mul-le-mul_left, arith}
 use Rattle.positions.proofs.Assigned.{assigned_empty, changed_empty, changed_le, assigned_pieces, changed_pieces}
 use Rattle.range_bitset.specs.Represents.{Stored}
 use Rattle.range_bitset.specs.Inner.{Assigns}
 
+-- ---- the pieces at the two ends, where the ways through the code meet
+
+-- the low end: the units from a up to the first whole part, f; n for them
+pub record LowEnd (a f n : ℕ) (Done : Type 0) : Type 0 where
+  pub low : a ≤ 64 * f
+  pub near : 64 * f < a + 64
+  pub fits : n < 2 ^ 32
+  pub done : Done
+
+-- the high end: those from part t, where the last whole one ends, up to e; `more` for them
+pub record HighEnd (t e n n' : ℕ) (Done : ℕ → Type 0) : Type 0 where
+  pub more : ℕ
+  pub high : 64 * t ≤ e
+  pub near : e < 64 * t + 64
+  pub sum : n' ≡ (n + more) % 2 ^ 32
+  pub done : Done more
+
+-- ---- what is assigned
+
+-- the same, with the ends as the caller has them
+pub assigns_at : (W : ℕ) (v : Bool) (st st' : List ℕ) (n : ℕ) {a a' e e' : ℕ} → a ≡ a' → e ≡ e' → Assigns W a e v st st' n → Assigns W a' e' v st st' n
+assigns_at W v st st' n {a} {a'} {e} p q t = subst (λ (x : ℕ). Assigns W a' x v st st' n) q (subst (λ (x : ℕ). Assigns W x e v st st' n) p t)
+
 -- an empty range
-pub assigns_none : (W a e : ℕ) (v : Bool) (st : List ℕ) → e ≤ a → Assigns W a e v st st 0
+assigns_none : (W a e : ℕ) (v : Bool) (st : List ℕ) → e ≤ a → Assigns W a e v st st 0
 assigns_none W a e v st h =
     record {
       storage_kept = refl;
@@ -15,7 +38,7 @@ assigns_none W a e v st h =
     }
 
 -- three pieces: the sum of the changed counts in 32 bits
-pub assigns_pieces : (W a b c e : ℕ) (v : Bool) (st st₁ st₂ st₃ : List ℕ) (n₁ n₂ n₃ n : ℕ) → a ≤ b → b ≤ c → c ≤ e → e ≤ 262144
+assigns_pieces : (W a b c e : ℕ) (v : Bool) (st st₁ st₂ st₃ : List ℕ) (n₁ n₂ n₃ n : ℕ) → a ≤ b → b ≤ c → c ≤ e → e ≤ 262144
     → Assigns W a b v st st₁ n₁ → Assigns W c e v st₁ st₂ n₂ → Assigns W b c v st₂ st₃ n₃ → n ≡ ((n₁ + n₂) % 2 ^ 32 + n₃) % 2 ^ 32
     → Assigns W a e v st st₃ n
 assigns_pieces W a b c e v st st₁ st₂ st₃ n₁ n₂ n₃ n h k l m x y z q =
@@ -29,35 +52,13 @@ assigns_pieces W a b c e v st st₁ st₂ st₃ n₁ n₂ n₃ n h k l m x y z q
           omega (arith, p, o, i, q, changed_pieces s a b c e v h k l, changed_le s a e v);
     }
 
--- the same, said otherwise
-pub assigns_to : (W : ℕ) (v : Bool) (st : List ℕ) {a a' e e' n n' : ℕ} {st₁ st₂ : List ℕ} → a ≡ a' → e ≡ e' → st₂ ≡ st₁ → n' ≡ n → Assigns W a e v st st₁ n → Assigns W a' e' v st st₂ n'
-assigns_to W v st {a} {a'} {e} {e'} {n} {n'} {st₁} {st₂} p q s r t =
-    subst (λ (x : ℕ). Assigns W x e' v st st₂ n') p
-    (subst (λ (x : ℕ). Assigns W a x v st st₂ n') q
-    (subst (λ (x : List ℕ). Assigns W a e v st x n') (sym s) (subst (λ (x : ℕ). Assigns W a e v st st₁ x) (sym r) t)))
+-- the same in units of u positions
+module _ (W u : ℕ) (v : Bool) where
+  pub assigns_no_units : (a e : ℕ) (st : List ℕ) → e ≤ a → Assigns W (u * a) (u * e) v st st 0
+  assigns_no_units a e st h = assigns_none W (u * a) (u * e) v st (mul-le-mul_left u h)
 
--- ---- the pieces at the two ends, where the ways through the code meet
-
--- the low end: the positions from a up to the first whole unit, at p
-pub record LowEnd (W u a p : ℕ) (v : Bool) (st st' : List ℕ) (n : ℕ) : Type 0 where
-  pub low : a ≤ p
-  pub near : p < a + u
-  pub fits : n < 2 ^ 32
-  pub assigns : Assigns W a p v st st' n
-
--- the high end: those from p, where the last whole unit ends, up to e; `more` of them changed
-pub record HighEnd (W u p e : ℕ) (v : Bool) (st st' : List ℕ) (n n' : ℕ) : Type 0 where
-  pub more : ℕ
-  pub high : p ≤ e
-  pub near : e < p + u
-  pub sum : n' ≡ (n + more) % 2 ^ 32
-  pub assigns : Assigns W p e v st st' more
-
--- no such positions at an end
-pub low_end_none : (W u a p : ℕ) (v : Bool) (st st' : List ℕ) (n : ℕ) → 0 < u → a ≡ p → st' ≡ st → n ≡ 0 → LowEnd W u a p v st st' n
-low_end_none W u a p v st st' n h k s e =
-    record { low = omega arith; near = omega arith; fits = omega arith; assigns = assigns_to _ _ _ refl refl s e (assigns_none W a p v st (omega arith)) }
-
-pub high_end_none : (W u p e : ℕ) (v : Bool) (st st' : List ℕ) (n n' : ℕ) → 0 < u → p ≡ e → n < 2 ^ 32 → st' ≡ st → n' ≡ n → HighEnd W u p e v st st' n n'
-high_end_none W u p e v st st' n n' h k f s q =
-    record { more = 0; high = omega arith; near = omega arith; sum = omega arith; assigns = assigns_to _ _ _ refl refl s refl (assigns_none W p e v st (omega arith)) }
+  pub assigns_units : (a b c e : ℕ) (st st₁ st₂ st₃ : List ℕ) (n₁ n₂ n₃ n : ℕ) → a ≤ b → b ≤ c → c ≤ e → u * e ≤ 64 * W → W ≤ 4096
+      → Assigns W (u * a) (u * b) v st st₁ n₁ → Assigns W (u * c) (u * e) v st₁ st₂ n₂ → Assigns W (u * b) (u * c) v st₂ st₃ n₃ → n ≡ ((n₁ + n₂) % 2 ^ 32 + n₃) % 2 ^ 32
+      → Assigns W (u * a) (u * e) v st st₃ n
+  assigns_units a b c e st st₁ st₂ st₃ n₁ n₂ n₃ n h k l m o =
+      assigns_pieces W _ _ _ _ v st st₁ st₂ st₃ n₁ n₂ n₃ n (mul-le-mul_left u h) (mul-le-mul_left u k) (mul-le-mul_left u l) (omega arith)

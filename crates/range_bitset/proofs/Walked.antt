@@ -65,9 +65,6 @@ kept_step W st r all sum {m = m} {b = b} {slot = slot} q h a e =
     omega (arith, k, e, taken q (λ (c : ℕ). at W st (population c)) (blocks_word W st r m h))
 
 -- at most a word's bits
-pub ones_right : (x m : ℕ) → m < 2 ^ 64 → ones (bit_and x m) ≤ 64
-ones_right x m h = ones-le 64 (bit_and x m) (lt_of_le_of_lt (and_le_r x m) h)
-
 pub ones_left : (x m : ℕ) → m < 2 ^ 64 → ones (bit_and m x) ≤ 64
 ones_left x m h = ones-le 64 (bit_and m x) (lt_of_le_of_lt (and_le_l m x) h)
 

@@ -3,7 +3,8 @@ ghost use Rattle.std.specs.Prelude.{◌≡◌, ◌+◌, ◌-◌, ◌*◌, ◌%�
 ghost use Rattle.range_bitset.specs.Entries.{AssignEnsures, SetEnsures};
 ghost use Rattle.range_bitset.specs.Inner.{Room, Assigns};
 
-use crate::{RangeBitset, rest, single, span};
+use crate::unit::{Positions, Unit};
+use crate::{RangeBitset, single};
 use answers::{Changed, Refusal};
 
 impl RangeBitset {
@@ -37,7 +38,7 @@ impl RangeBitset {
         }
         let words = self.words as usize;
         Self::ensure_storage(storage, words, self.allocated);
-        let changed = Self::assign_range(storage, words, start, end, value);
+        let changed = Self::assign_units::<Positions>(storage, words, start, end, value);
         Ok(Changed {
             answer: changed,
             head: RangeBitset {
@@ -48,69 +49,40 @@ impl RangeBitset {
         })
     }
 
-    // The rest of the Rust's `assign`, from `first_word` on.
-    fn assign_range(storage: &mut [u64], words: usize, start: usize, end: usize, value: bool) -> u32
-        requires { Room words storage.old × (start < end) × (end ≤ 64 * words) }
-        ensures { Assigns words start end value storage.old storage.new result }
-    {
-        let first_word = start / 64;
-        let last_word = (end - 1) / 64;
-        if first_word == last_word {
-            let mask = span(start % 64, (end - 1) % 64 + 1);
-            return Self::assign_in_word(storage, words, first_word, mask, value);
-        }
-        let mut changed = 0u32;
-        let mut whole_from = first_word;
-        if start % 64 != 0 {
-            changed = Self::assign_in_word(storage, words, first_word, rest(start % 64), value);
-            whole_from += 1;
-        }
-        let mut whole_to = last_word + 1;
-        if end % 64 != 0 {
-            let more = Self::assign_in_word(storage, words, last_word, span(0, end % 64), value);
-            changed = changed.wrapping_add(more);
-            whole_to -= 1;
-        }
-        let more = Self::assign_whole_words(storage, words, whole_from, whole_to, value);
-        changed.wrapping_add(more)
-    }
-
-    fn assign_whole_words(
+    // The rest of the Rust's `assign`, from `first_word` on, where a unit is a position; its `assign_whole_words` where it is a word.
+    pub(crate) fn assign_units<U: Unit>(
         storage: &mut [u64],
         words: usize,
         from: usize,
         to: usize,
         value: bool,
     ) -> u32
-        requires { Room words storage.old × (to ≤ words) }
-        ensures { Assigns words (64 * from) (64 * to) value storage.old storage.new result }
+        requires { Room words storage.old × (from < to) × (U.each * to ≤ 64 * words) }
+        ensures { Assigns words (U.each * from) (U.each * to) value storage.old storage.new result }
     {
-        if from >= to {
-            return 0;
-        }
-        let first_block = from / 64;
-        let last_block = (to - 1) / 64;
-        if first_block == last_block {
-            let mask = span(from % 64, (to - 1) % 64 + 1);
-            return Self::assign_words(storage, words, first_block, mask, value);
+        let first = from / 64;
+        let last = (to - 1) / 64;
+        if first == last {
+            return U::assign_part(storage, words, from, to, value);
         }
         let mut changed = 0u32;
-        let mut blocks_from = first_block;
+        let mut whole_from = first;
         if from % 64 != 0 {
-            changed = Self::assign_words(storage, words, first_block, rest(from % 64), value);
-            blocks_from += 1;
+            whole_from += 1;
+            changed = U::assign_part(storage, words, from, 64 * whole_from, value);
         }
-        let mut blocks_to = last_block + 1;
+        let mut whole_to = last + 1;
         if to % 64 != 0 {
-            let more = Self::assign_words(storage, words, last_block, span(0, to % 64), value);
-            changed = changed.wrapping_add(more);
-            blocks_to -= 1;
-        }
-        if blocks_from < blocks_to {
-            let more = Self::assign_blocks(storage, words, span(blocks_from, blocks_to), value);
+            whole_to -= 1;
+            let more = U::assign_part(storage, words, 64 * whole_to, to, value);
             changed = changed.wrapping_add(more);
         }
-        changed
+        let whole = if whole_from < whole_to {
+            U::assign_whole(storage, words, whole_from, whole_to, value)
+        } else {
+            0
+        };
+        changed.wrapping_add(whole)
     }
 
     // Set or clear one position; answers whether it changed.

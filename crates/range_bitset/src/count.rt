@@ -4,7 +4,8 @@ ghost use Rattle.range_bitset.specs.Read.{word_read};
 ghost use Rattle.range_bitset.specs.Entries.{CountEnsures};
 ghost use Rattle.range_bitset.specs.Inner.{Counts};
 
-use crate::{RangeBitset, View, rest, span};
+use crate::unit::{Positions, Unit};
+use crate::{RangeBitset, View};
 use answers::Refusal;
 
 impl RangeBitset {
@@ -18,73 +19,46 @@ impl RangeBitset {
         }
         let words = self.words as usize;
         let view = View { storage, words };
-        Ok(view.count_range(start, end))
+        Ok(view.count_units::<Positions>(start, end))
     }
 }
 
 impl View<'_> {
-    // How many bits of `mask` data word `word` has.
-    fn masked_ones(self, word: usize, mask: u64) -> u32
+    // How many bits of `mask` data word `word` has. By itself, so that a full word's are those of the mask, without an `and`.
+    pub(crate) fn masked_ones(self, word: usize, mask: u64) -> u32
         requires { word < self.words }
-        ensures { (result ≡ count_ones (bit_and (word_read self.entry.words self.entry.storage.now word) mask)) × (result ≤ 64) }
+        ensures { result ≡ count_ones (bit_and (word_read self.entry.words self.entry.storage.now word) mask) }
     {
         (self.word(word) & mask).count_ones()
     }
 
-    // The rest of the Rust's `count`, from `first_word` on.
-    fn count_range(self, start: usize, end: usize) -> u32
-        requires { (start < end) × (end ≤ 64 * self.words) }
-        ensures { Counts self.entry.words start end self.entry.storage.now result }
+    // The rest of the Rust's `count`, from `first_word` on, where a unit is a position; its `whole_words_population` where it is a word.
+    pub(crate) fn count_units<U: Unit>(self, from: usize, to: usize) -> u32
+        requires { (from < to) × (U.each * to ≤ 64 * self.words) }
+        ensures { Counts self.entry.words (U.each * from) (U.each * to) self.entry.storage.now result }
     {
-        let first_word = start / 64;
-        let last_word = (end - 1) / 64;
-        if first_word == last_word {
-            let mask = span(start % 64, (end - 1) % 64 + 1);
-            return self.masked_ones(first_word, mask);
+        let first = from / 64;
+        let last = (to - 1) / 64;
+        if first == last {
+            return U::part_population(self, from, to);
         }
         let mut population = 0u32;
-        let mut whole_from = first_word;
-        if start % 64 != 0 {
-            population = self.masked_ones(first_word, rest(start % 64));
-            whole_from += 1;
-        }
-        let mut whole_to = last_word + 1;
-        if end % 64 != 0 {
-            population += self.masked_ones(last_word, span(0, end % 64));
-            whole_to -= 1;
-        }
-        let whole = self.whole_words_population(whole_from, whole_to);
-        population.wrapping_add(whole)
-    }
-
-    fn whole_words_population(self, from: usize, to: usize) -> u32
-        requires { to ≤ self.words }
-        ensures { Counts self.entry.words (64 * from) (64 * to) self.entry.storage.now result }
-    {
-        if from >= to {
-            return 0;
-        }
-        let first_block = from / 64;
-        let last_block = (to - 1) / 64;
-        if first_block == last_block {
-            let mask = span(from % 64, (to - 1) % 64 + 1);
-            return self.words_population(first_block, mask);
-        }
-        let mut population = 0u32;
-        let mut blocks_from = first_block;
+        let mut whole_from = first;
         if from % 64 != 0 {
-            population = self.words_population(first_block, rest(from % 64));
-            blocks_from += 1;
+            whole_from += 1;
+            population = U::part_population(self, from, 64 * whole_from);
         }
-        let mut blocks_to = last_block + 1;
+        let mut whole_to = last + 1;
         if to % 64 != 0 {
-            population += self.words_population(last_block, span(0, to % 64));
-            blocks_to -= 1;
+            whole_to -= 1;
+            let more = U::part_population(self, 64 * whole_to, to);
+            population = population.wrapping_add(more);
         }
-        if blocks_from < blocks_to {
-            let whole = self.blocks_population(span(blocks_from, blocks_to));
-            population = population.wrapping_add(whole);
-        }
-        population
+        let whole = if whole_from < whole_to {
+            U::whole_population(self, whole_from, whole_to)
+        } else {
+            0
+        };
+        population.wrapping_add(whole)
     }
 }

@@ -13,8 +13,8 @@
 // entry refuses what 01's table refuses, and inside, sums wrap and masks are cut to the words and blocks that there are.
 // Assumes nothing of its callers: no entry has a `requires`.
 //
-// The files, in the Rust's order: this one, head, layout, read, open, whole, assign, count, search, clear. Not the Rust's are select, with level
-// and in_word below it, and shown, by whose entries `audit` reads.
+// The files, in the Rust's order: this one, head, layout, read, open, whole, assign, count, search, clear. Not the Rust's are unit, by which assign
+// and count cut a range, select, with level and in_word below it, and shown, by whose entries `audit` reads.
 #![tactic(auto)]
 
 ghost use Rattle.std.specs.Prelude.{◌≡◌, ◌+◌, ◌^◌, ◌<◌, ◌≤◌};
@@ -33,6 +33,7 @@ mod read;
 mod search;
 mod select;
 mod shown;
+mod unit;
 mod whole;
 
 pub const ALL: u64 = u64::MAX;

@@ -1,5 +1,5 @@
 -- `count` meets its contract: one law of QueryReturns for each return. Assumes nothing.
-use Rattle.range_bitset.proofs.Kit.{⊎_elim, sym, arith}
+use Rattle.range_bitset.proofs.Kit.{⊎_elim, sym, arith, one-mul}
 use Rattle.range_bitset.proofs.AcceptedHeads.{range_accepted}
 use Rattle.range_bitset.proofs.QueryReturns.{declined, count_nothing, count_empty_set, count_begun}
 use Rattle.answers.proofs.Numbers.{passed_on}
@@ -16,12 +16,12 @@ returns-then-start-end c =
 pub invariant_of-view : goal.invariant_of-view
 invariant_of-view c = record { room = (range_accepted c.args.self c.args.storage.now c.args.end (sym c.in_ok-check_range.ensures)).0 }
 
-pub count_range-requires : goal.count_range-requires
-count_range-requires c =
+pub count_units-requires : goal.count_units-requires
+count_units-requires c =
     let a = c.args in
     let q = range_accepted a.self a.storage.now a.end (sym c.in_ok-check_range.ensures) in
-    (omega (arith, c.if-start-end.false), q.1)
+    (omega (arith, c.if-start-end.false), rw (one-mul a.end) q.1)
 
 pub returns : goal.returns
 returns c =
-    count_begun _ _ _ _ (sym c.in_ok-check_range.ensures) _ c.if-self-eq0.false c.count_range.ensures
+    count_begun _ _ _ _ (sym c.in_ok-check_range.ensures) _ c.if-self-eq0.false (simp one-mul at c.count_units.ensures)
