@@ -15,7 +15,7 @@ use Rattle.range_bitset.specs.Represents.{valid, block_count}
 use Rattle.audit.specs.Sound.{plain, SoundBlock, Words}
 use Rattle.range_bitset.specs.Inner.{Room, mixed_count}
 use Rattle.range_bitset.specs.Shown.{mixed_of, block_of}
-use Rattle.audit.specs.Inner.{Tells, Audits, SoundMasks, InWords, stored_population, explicit_of, mixed_population, SoundMixed, WordsAudited, MixedAudited}
+use Rattle.audit.specs.Inner.{Tells, Audits, SoundMasks, InWords, stored_population, explicit_of, mixed_population, SoundMixed, WordsAudited}
 use Rattle.std.proofs.Common.{Option, Some, None}
 use Rattle.range_bitset.specs.declared.MixedBlock.{MixedBlock}
 use Rattle.range_bitset.specs.declared.Block.TheVariants as block
@@ -27,9 +27,6 @@ use Rattle.audit.proofs.SoundStorage.{plain_word}
 use Rattle.range_bitset.proofs.Populations.{masked_rows}
 
 -- ---- answers that tell
-
-pub told_not : {P : Type 0} → (P → ⊥) → Tells false P
-told_not n = record { yes = λ e. absurd (false≢true e); no = λ e. n }
 
 -- what a question comes to, where the rest of it is answered
 pub told_as : {P Q : Type 0} {r : Bool} → Tells r P → (P → Q) → (Q → P) → Tells r Q
@@ -69,15 +66,6 @@ within_told a b ha hb =
     bit_none 64 (bit_and a ((2 ^ 64 - 1) - b)) (lt_of_le_of_lt (and_le_l a ((2 ^ 64 - 1) - b)) ha)
     (λ j l. bit_without 64 a b j ha hb ∙ zero_without (bit a j) (bit b j) (f j)))
 
--- a bit past those that there are; else the two masks tell
-pub masks_over : {r : Bool} (any all valid : ℕ) → Tells r ((j : ℕ) → bit any j ≡ true → bit valid j ≡ true) → r ≡ false
-    → Tells false (SoundMasks any all valid)
-masks_over any all valid t e = told_not (λ z. t.no e z.fits)
-
-pub masks_told : {r q : Bool} (any all valid : ℕ) → Tells r ((j : ℕ) → bit any j ≡ true → bit valid j ≡ true) → r ≡ true
-    → Tells q ((j : ℕ) → bit all j ≡ true → bit any j ≡ true) → Tells q (SoundMasks any all valid)
-masks_told any all valid t e u = told_as u (λ f. record { fits = t.yes e; within_nonzero = f }) (λ z. z.within_nonzero)
-
 -- sound masks of n words or blocks: both lie below 2 ^ n
 pub masks_fit : (n any all : ℕ) → any < 2 ^ 64 → all < 2 ^ 64 → SoundMasks any all (2 ^ n - 1) → (any < 2 ^ n) × (all < 2 ^ n)
 masks_fit n any all ha hb z =
@@ -100,9 +88,6 @@ pub record Passed (st : List ℕ) (b m known left n : ℕ) : Type 0 where
   pub counted : n + stored_population st b left ≡ known + stored_population st b m
 
 module _ (st : List ℕ) (b m known : ℕ) where
-  pub walk_first : m < 2 ^ 64 → Passed st b m known m known
-  walk_first h = record { fits = h; part = λ j p. p; past = λ j p q. absurd (true≢false (sym p ∙ q)); counted = refl }
-
   module _ (left n : ℕ) (w : Passed st b m known left n) where
     -- the next word lies in the storage
     pub walk_at : InWords st b m → left ≢ 0 → 64 * b + count_trailing_zeros 64 left < length st
@@ -215,17 +200,6 @@ words_in W st b r h j p = let l : j < words_of W b = ltb-true j (words_of W b) (
 -- and so do those of any mask within them, less some
 pub stored_in : (st : List ℕ) (b n f v : ℕ) → ((j : ℕ) → bit n j ≡ true → bit v j ≡ true) → InWords st b v → InWords st b (bit_and n (ALL - f))
 stored_in st b n f v h i j p = i j (h j (and_left (bit n j) _ (sym (bit_of_and n (ALL - f) j) ∙ p)))
-
--- the stored words are as they must be; with the full ones they have k positions
-module _ (st : List ℕ) (b : ℕ) (m : MixedBlock) (k : ℕ) (w : WordsAudited st b (explicit_of m) (ones m.full * 64) (Some k)) where
-  pub mixed_other : m.population ≢ k → MixedAudited st b m None
-  mixed_other d = unsound (λ o. d (o.counted ∙ sym (w.yes k refl).1))
-
-  pub mixed_told : {r : Bool} → Tells r (SoundMasks m.nonzero m.full m.valid) → r ≡ true → m.nonzero ≢ 0 → m.full ≢ m.valid → m.population ≡ k
-      → MixedAudited st b m (Some k)
-  mixed_told t e z a d =
-      let s = w.yes k refl in
-      sound_with (record { masks = t.yes e; some = z; not_all = a; words = s.0; counted = d ∙ s.1 }) s.1
 
 -- a mixed block as it is shown meets the rules exactly when it meets 01's
 module _ (W : ℕ) (st : List ℕ) (b : ℕ) (u : Words st) (m : state_of W st b ≡ Mixed) where

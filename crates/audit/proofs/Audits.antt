@@ -1,28 +1,25 @@
--- The returns of the audit over the blocks, over a storage, and of the entry: what each tells, from what the code has there.
--- Assumes nothing.
-use Rattle.audit.proofs.Kit.{◌≡◌, refl, ap, sym, ◌∙◌, subst, inl, inr, Bool, true, false, true≢false, List, ℕ, ◌+◌, ◌*◌, ◌/◌, ◌≤◌, ◌<◌, min, dec_lt, arith, eqb, length}
+-- The returns of the audit over the blocks and over a storage: what each tells, from what the code has there. Assumes nothing.
+use Rattle.audit.proofs.Kit.{◌≡◌, refl, ap, sym, ◌∙◌, subst, Bool, true, false, List, ℕ, ◌+◌, ◌*◌, ◌/◌, ◌≤◌, ◌<◌, min, dec_lt, arith, length}
 use Rattle.positions.specs.Positions.{Positions, count}
 use Rattle.positions.proofs.Counts.{count_split, count_empty, count_le}
 use Rattle.range_bitset.specs.Layout.{blocks, words_of}
 use Rattle.range_bitset.specs.Read.{state_of}
 use Rattle.range_bitset.specs.Represents.{block_count}
-use Rattle.audit.specs.Sound.{SoundStorage, Sound, Words}
+use Rattle.audit.specs.Sound.{SoundStorage, Words}
 use Rattle.range_bitset.specs.Answers.{storage_refusal, point_refusal}
 use Rattle.range_bitset.specs.Shown.{tops_of, mixed_of, block_of, TopsEnsures, BlockEnsures}
-use Rattle.audit.specs.Entry.{AuditEnsures}
-use Rattle.audit.specs.Inner.{Tells, Audits, MixedAudited, BlockAudited, BlocksAudited, StorageAudited, SoundMasks, InWords, SoundAt, SoundBlocks}
+use Rattle.audit.specs.Inner.{Tells, MixedAudited, BlockAudited, BlocksAudited, StorageAudited, SoundMasks, InWords, SoundAt, SoundBlocks}
 use Rattle.range_bitset.specs.declared.RangeBitset.{RangeBitset}
 use Rattle.range_bitset.specs.declared.MixedBlock.{MixedBlock}
 use Rattle.range_bitset.specs.declared.State.TheVariants.{Mixed}
-use Rattle.std.proofs.Common.{Option, Some, None, Ok, Err}
-use Rattle.answers.specs.Refusals.{number_of}
+use Rattle.std.proofs.Common.{Option, Some, Ok, Err}
 use Rattle.answers.specs.declared.Refusal.{Refusal}
 use Rattle.answers.proofs.Numbers.{number_some}
 use Rattle.range_bitset.specs.declared.Tops.{Tops}
 use Rattle.range_bitset.specs.declared.Block.{Block}
 use Rattle.range_bitset.specs.declared.Block.TheVariants as block
 use Rattle.range_bitset.proofs.AcceptedHeads.{accepted, point_accepts}
-use Rattle.audit.proofs.AuditBlocks.{told_as, told_eq, sound_with, audits_as, masks_fit, fit_masks, mixed_counted, empty_counted, full_counted, words_in, shown_sound, sound_shown, shown_empty, shown_full, shown_mixed}
+use Rattle.audit.proofs.AuditBlocks.{sound_with, audits_as, masks_fit, fit_masks, mixed_counted, empty_counted, full_counted, words_in, shown_sound, sound_shown, shown_empty, shown_full, shown_mixed}
 
 -- ---- the blocks, and the storage
 
@@ -37,17 +34,10 @@ module _ (W : ℕ) (st : List ℕ) where
       by (yes p) = f c p
       by (no p) = let e : b ≡ c = omega arith in subst (SoundAt W st) e g
 
-  -- a block that breaks a rule
-  pub blocks_stop : {n : ℕ} {r : Option ℕ} (b : ℕ) → b < blocks W → Audits (SoundAt W st b) n r → r ≡ None → SoundBlocks W st (blocks W) → ⊥
-  blocks_stop b h t e f = t.no e (f b h)
-
 -- what is shown of the top masks, and then the blocks, tell whether the storage is sound
 module _ (h : RangeBitset) (st : List ℕ) (e : storage_refusal h (length st) ≡ 0) where
   tops_are : (m : Tops) → TopsEnsures h st (Ok m) → m ≡ tops_of h.words st
   tops_are m s = let p = s.shows e in cc
-
-  pub tops_not_refused : (k : Refusal) → TopsEnsures h st (Err k) → ⊥
-  tops_not_refused k s = number_some k (s.refuses ∙ e)
 
   pub tops_stop : {q : Bool} (m : Tops) → TopsEnsures h st (Ok m) → Tells q (SoundMasks m.nonzero m.full m.valid) → q ≡ false → SoundStorage h.words st → ⊥
   tops_stop m p t f z =
@@ -122,44 +112,3 @@ reach_next W s b h =
 
 pub reach_most : (W : ℕ) (s : Positions) (b : ℕ) → count s 0 (reach W b) ≤ 64 * W
 reach_most W s b = omega (arith, count_le s 0 (reach W b))
-
-pub reach_all : (W : ℕ) (s : Positions) (b : ℕ) → blocks W ≤ b → count s 0 (reach W b) ≡ count s 0 (64 * W)
-reach_all W s b h = let e : reach W b ≡ 64 * W = omega arith in ap (count s 0) e
-
--- ---- the entry
-
-module _ (h : RangeBitset) (st : List ℕ) where
-  pub audit_declined : (k : Refusal) → number_of k ≡ storage_refusal h (length st) → AuditEnsures h st (Err k)
-  audit_declined k e = record { refuses = e; tells = λ p. absurd (number_some k (e ∙ p)) }
-
-  -- an accepted audit tells whether head and storage are sound
-  audit_told : (b : Bool) → storage_refusal h (length st) ≡ 0 → Tells b (Sound h st) → AuditEnsures h st (Ok b)
-  audit_told true e t = record { refuses = sym e; tells = λ p. inl (refl, t.yes refl) }
-  audit_told false e t = record { refuses = sym e; tells = λ p. inr (refl, t.no refl) }
-
-  pub audit_fresh : storage_refusal h (length st) ≡ 0 → h.allocated ≡ false → AuditEnsures h st (Ok (eqb h.len 0))
-  audit_fresh e f =
-      audit_told _ e
-      (told_as (told_eq h.len 0)
-      (λ p.
-      record {
-        unbegun = λ g. p;
-        storage = λ g. absurd (true≢false (sym g ∙ f));
-        whole = λ g. absurd (true≢false (sym g ∙ f));
-      })
-      (λ o. o.unbegun f))
-
-  -- the answer is whether what the storage tells is the head's population
-  pub audit_begun : storage_refusal h (length st) ≡ 0 → h.allocated ≡ true → (r : Option ℕ) → StorageAudited h.words st r
-      → (b : Bool) → Tells b (r ≡ Some h.len) → AuditEnsures h st (Ok b)
-  audit_begun e f r t b q =
-      audit_told b e
-      (told_as q
-      (λ p.
-      let s = t.yes h.len p in
-      record { unbegun = λ g. absurd (true≢false (sym f ∙ g)); storage = λ g. s.0; whole = λ g. s.1 })
-      (λ o. told r t o))
-    where
-      told : (r : Option ℕ) → StorageAudited h.words st r → Sound h st → r ≡ Some h.len
-      told (Some n) t o = ap (λ (x : ℕ). Some x) ((t.yes n refl).1 ∙ sym (o.whole f))
-      told None t o = absurd (t.no refl (o.storage f))

@@ -1,6 +1,6 @@
 -- The counts of a word's bits: `count_ones` is how many of its bits are set, `trailing_zeros` is the place of its lowest bit, `leading_zeros` tells that of its
 -- highest, and `n & (n - 1)` clears the lowest. Assumes nothing.
-use Rattle.bits.proofs.Kit.{◌≡◌, refl, sym, ap, ap₂, ◌∙◌, subst, ◌≢◌, Bool, true, false, true≢false, not, ◌&&◌, and-true, and_self, ℕ, zero, suc, ◌+◌, ◌-◌, ◌*◌, ◌/◌, ◌%◌, ◌^◌, ◌≤◌, ◌<◌, count_leading_zeros, leading_top, lt_of_le-ne, lt_of_lt_of_le, le_refl, le_of_suc-le-suc, not-suc-le-zero, mod-lt, div-add-mod', pow-suc, pos_of_ne-zero, lt_irrefl, dec_lt, one-add, arith, eq-eqb, eqb, eqb·suc_suc, eqb·suc_zero, lt-one, le-zero, digits_div, digits_mod, bit_and, and_le_r, ones, ones_step, ones-le, count_trailing_zeros, trailing_le, under}
+use Rattle.bits.proofs.Kit.{◌≡◌, refl, sym, ap, ap₂, ◌∙◌, subst, ◌≢◌, Bool, true, false, true≢false, not, ◌&&◌, and-true, and_self, ℕ, zero, suc, ◌+◌, ◌-◌, ◌*◌, ◌/◌, ◌%◌, ◌^◌, ◌≤◌, ◌<◌, count_leading_zeros, leading_top, lt_of_le-ne, lt_of_lt_of_le, le_refl, le_of_suc-le-suc, not-suc-le-zero, mod-lt, div-add-mod', pow-suc, pos_of_ne-zero, lt_irrefl, dec_lt, one-add, arith, eq-eqb, eqb, eqb·suc_suc, eqb·suc_zero, lt-one, le-zero, digits_div, digits_mod, bit_and, ones, ones_step, ones-le, count_trailing_zeros, trailing_le, under}
 use Rattle.bits.specs.Bit.{bit}
 use Rattle.positions.specs.Positions.{only_if, count_from}
 use Rattle.bits.proofs.Bits.{two_pos, bit_0, bit_suc, bit_of_and, bit_none, bit_below, bit_beyond, bits_fit}
@@ -121,6 +121,3 @@ module _ (k n : ℕ) (ne : n ≢ 0) (h : n < 2 ^ k) where
   -- the bits of n but the lowest
   pub bit_drop_lowest : (i : ℕ) → bit (bit_and n (n - 1)) i ≡ (bit n i && not (eqb i (count_trailing_zeros k n)))
   bit_drop_lowest i = bit_of_and n (n - 1) i ∙ lowest k n i (pos_of_ne-zero ne) h
-
-  pub drop_lowest_lt : bit_and n (n - 1) < n
-  drop_lowest_lt = omega (arith, and_le_r n (n - 1), pos_of_ne-zero ne)

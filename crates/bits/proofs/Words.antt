@@ -2,7 +2,7 @@
 use Rattle.bits.proofs.Kit.{◌≡◌, refl, ap, sym, ◌∙◌, ap₂, Bool, true, false, not, ◌&&◌, ◌||◌, cond, ℕ, zero, suc, ◌+◌, ◌*◌, ◌-◌, ◌/◌, ◌%◌, ◌^◌, ◌≤◌, ◌<◌, pow-succ', lt_of_le_of_lt, lt_of_lt_of_le, arith, eqb, ltb, leb·suc_suc, leb·suc_zero, or_lt, and_le_l, ones, pow-lt, pow_mono, pow_pos, lt-ltb, ltb-true}
 use Rattle.positions.specs.Positions.{Positions, one, count_from}
 use Rattle.positions.proofs.Bools.{and_left, and_right, same₂}
-use Rattle.positions.proofs.Counts.{count_from_ext}
+use Rattle.positions.proofs.Counts.{count_from_ext, one_is}
 use Rattle.bits.specs.Bit.{bit, mask, put}
 use Rattle.bits.proofs.Bits.{bit_0, bit_suc, bit_zero, bit_of_and, bit_of_or, bit_not, bit_ext, bit_pow}
 use Rattle.bits.proofs.Ones.{ones_count_from}
@@ -26,15 +26,11 @@ one_odd : (b : Bool) (x : ℕ) → ((one b + x * 2) % 2 ≡ one b) × ((one b + 
 one_odd true x = omega arith
 one_odd false x = omega arith
 
-eqb_one : (b : Bool) → eqb (one b) 1 ≡ b
-eqb_one true = refl
-eqb_one false = refl
-
 pub mask_bit : (n : ℕ) (f : Positions) (i : ℕ) → bit (mask n f) i ≡ (ltb i n && f i)
 unfolding mask
 mask_bit zero f i = bit_zero i ∙ ap (λ (x : Bool). x && f i) (sym (leb·suc_zero i))
 mask_bit (suc n) f zero =
-    bit_0 _ ∙ ap (λ (x : ℕ). eqb x 1) (one_odd (f 0) (mask n (λ i. f (suc i)))).0 ∙ eqb_one (f 0)
+    bit_0 _ ∙ ap (λ (x : ℕ). eqb x 1) (one_odd (f 0) (mask n (λ i. f (suc i)))).0 ∙ one_is (f 0)
     ∙ ap (λ (x : Bool). x && f 0) (sym (lt-ltb 0 (suc n) (omega arith)))
 mask_bit (suc n) f (suc i) =
     bit_suc _ i ∙ ap (λ (x : ℕ). bit x i) (one_odd (f 0) (mask n (λ j. f (suc j)))).1 ∙ mask_bit n (λ j. f (suc j)) i

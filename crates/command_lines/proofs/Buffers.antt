@@ -97,14 +97,6 @@ lines_open l (b ∷ t) more e = go (eqb b 10) refl e (λ h. lines_open (l ++ (b 
   go true p h i = absurd (false≢true (sym h))
   go false p h i = i h ∙ ap (λ (x : List ℕ). lines_from x more) (append_assoc l (b ∷ []) (up_to t))
 
-pub up_to_open : (t : List ℕ) → ends t ≡ false → up_to t ≡ t
-unfolding up_to ends
-up_to_open [] e = refl
-up_to_open (b ∷ t) e = go (eqb b 10) e (up_to_open t) where
-  go : (s : Bool) → cond s true (ends t) ≡ false → (ends t ≡ false → up_to t ≡ t) → cond s [] (b ∷ up_to t) ≡ b ∷ t
-  go true h i = absurd (false≢true (sym h))
-  go false h i = ap (λ (x : List ℕ). b ∷ x) (i h)
-
 -- ---- what a loop over a text needs: gathering moves on, within the text, and keeps within the buffer
 
 -- a text that has a newline is longer than what stands before it

@@ -3,16 +3,14 @@ pub use Prim.Native.Nat.{suc, zero, ℕ, ◌%◌, ◌*◌, ◌+◌, ◌-◌, ◌
 pub use Rattle.std.proofs.lemmas.Fmt.{AppendsLastDigit, decimal_from_appends, decimal_nonempty, length-decimal-le, length-decimal-le_succ}
 pub use Rattle.std.proofs.lemmas.Option.{cond_some}
 pub use Rattle.std.proofs.lemmas.Slice.Eq.{bytes_eq-Decides}
-pub use Rattle.std.proofs.lemmas.Slice.{put_mid-paste}
 pub use Rattle.std.specs.Fmt.{decimal}
 pub use Rattle.std.specs.List.{position, position_or_len, prefix_len}
 pub use Rattle.std.specs.Prelude.{None, Option, Some, codes}
 pub use Rattle.std.specs.Str.{bytes_eq}
 pub use borrow.Author.Tests.{eqb-true, le-leb, le-ltb, leb-false, leb-true, lt-ltb, ltb-false, ltb-true}
-pub use borrow.Rule.Slice.PartMut.{put_mid}
 pub use lib.Dec.{eqb, leb, lit<, ltb}
-pub use lib.ListN.{drop, length, length-append, length-drop, length-take, set, take}
-pub use lib.Seq.{length-take-le, sets, sets-eq, take-append-le, take_all, take_at}
+pub use lib.ListN.{drop, length, length-append, length-drop, length-take, take}
+pub use lib.Seq.{take-append-le, take_all}
 pub use mathlib.Core.Bool.{Bool, cond, false, false≢true, not, true, ◌&&◌}
 pub use mathlib.Core.List.{List, [], append-nil, append_assoc, map, ◌++◌, ◌∷◌}
 pub use mathlib.Core.Path.{ap, refl, sym, ◌∙◌, ◌≡◌}

@@ -3,7 +3,7 @@
 // callers: no entry has a `requires`.
 #![tactic(auto)]
 
-ghost use Rattle.std.specs.Prelude.{◌≡◌, [], ◌∷◌, ◌++◌, ◌+◌, ◌≤◌, ◌<◌, cond, length, take, position, MatchOption, option_copied, ◌==◌};
+ghost use Rattle.std.specs.Prelude.{◌≡◌, ◌++◌, ◌+◌, ◌≤◌, ◌<◌, cond, length, take, position, MatchOption, option_copied, ◌==◌};
 ghost use Rattle.positions.specs.Positions.{one};
 ghost use Rattle.positions.specs.Replies.{number};
 ghost use Rattle.answers.specs.Refusals.{of_result, of_position};

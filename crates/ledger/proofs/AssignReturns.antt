@@ -1,5 +1,5 @@
 -- Laws for marking and clearing as calls: one for each return of `assign`, with the machine's step there. Assumes nothing.
-use Rattle.ledger.proofs.Kit.{◌≡◌, refl, sym, ap, ◌∙◌, inl, inr, Bool, true, false, true≢false, cond, List, ℕ, ◌+◌, ◌*◌, ◌-◌, ◌/◌, ◌≤◌, ◌<◌, arith, le-leb, lt-leb, leb-true, leb-false, eq-eqb, ne_eqb, length, take}
+use Rattle.ledger.proofs.Kit.{◌≡◌, refl, sym, ap, ◌∙◌, inl, Bool, true, false, true≢false, cond, List, ℕ, ◌+◌, ◌*◌, ◌-◌, ◌/◌, ◌≤◌, ◌<◌, arith, le-leb, lt-leb, leb-true, leb-false, eq-eqb, ne_eqb, length, take}
 use Rattle.positions.proofs.Replies.{accepted_refused}
 use Rattle.positions.specs.Positions.{Positions, assigned}
 use Rattle.positions.specs.Runs.{changed_runs}
@@ -22,8 +22,8 @@ use Rattle.ledger.specs.Entries.{CallEnsures, flag_after, most_need}
 use Rattle.set_runs.specs.Walks.{RunsFit}
 use Rattle.ledger.specs.Inner.{WritesCall}
 use Rattle.ledger.specs.declared.Ledger.{Ledger}
-use Rattle.ledger.proofs.Machines.{stayed, went, step_outside, step_full, step_range, reachable_step, set_after_range, needs_added, journal_added}
-use Rattle.ledger.proofs.Refusals.{refused_call, LentEnough, lent_accepted, set_accepts, lent_again}
+use Rattle.ledger.proofs.Machines.{went, step_outside, step_full, step_range, reachable_step, set_after_range, needs_added, journal_added}
+use Rattle.ledger.proofs.Refusals.{declined_call, refused_call, LentEnough, lent_accepted, set_accepts, lent_again}
 
 module _ (h : Ledger) (st j : List ℕ) (a e : ℕ) (v : Bool) where
   -- ---- the refusals of the table
@@ -72,24 +72,8 @@ module _ (h : Ledger) (st j : List ℕ) (a e : ℕ) (v : Bool) where
       → ((s : Positions) → Represents h.set st s → h.journal - h.used < need_of s a e v) → (most_need (range a e v) ≤ h.journal - h.used → ⊥)
       → CallEnsures (range a e v) before (refusal 6) before
   full l n six more some =
-      record {
-        refuses = λ z. ap refusal (sym (six z));
-        only_6 = λ z. inr (refl, refl);
-        exactly_6 = λ z s x. sym (ap (λ (b : Bool). cond b 0 6) (lt-leb (need_of s a e v) (h.journal - h.used) (more s x)));
-        short_6 = λ z o. absurd (some o);
-        unchanged = λ z. refl;
-        same_words = refl;
-        same_limit = refl;
-        used_most = λ z. absurd z;
-        storage_kept = refl;
-        journal_kept = λ i z. refl;
-        answers = λ m x. rw (stays m x);
-        holds = λ m x. rw (stays m x) x;
-        flag = λ m x. refl;
-      }
-    where
-      stays : (m : Machine) → Holds before m → step m (range a e v) ≡ stayed m 6
-      stays m x = step_full m a e v (omega (arith, x.capacity)) (omega (arith, x.journal_length, x.in_use, more (set_of m) x.set))
+      declined_call (range a e v) before 6 (λ z. sym (six z)) (λ z. (refl, refl, more, some))
+      (λ m x. step_full m a e v (omega (arith, x.capacity)) (omega (arith, x.journal_length, x.in_use, more (set_of m) x.set)))
 
   -- none is left
   pub none_left : lent_refusal h (length st) (length j) ≡ 0 → e ≤ capacity_of h.set → h.used ≡ h.journal → CallEnsures (range a e v) before (refusal 6) before

@@ -5,6 +5,7 @@ use Rattle.positions.specs.Positions.{Positions, count, one}
 use Rattle.positions.specs.Runs.{Run, changed_runs, lengths}
 use Rattle.positions.proofs.Assigned.{changed_le}
 use Rattle.positions.proofs.Changes.{changed_lengths}
+use Rattle.positions.proofs.Counts.{one_is}
 use Rattle.range_bitset.proofs.AcceptedHeads.{good_bounds}
 use Rattle.range_bitset.proofs.Slots.{past_same}
 use Rattle.range_bitset.specs.Represents.{Represents, capacity_of}
@@ -128,10 +129,6 @@ last_absent j u e = go (eqb u 0) refl e
 
 -- ---- the journal of a sound ledger, unpacked: the last standing call's runs and value, and the journal before it
 
-one_is : (v : Bool) → eqb (one v) 1 ≡ v
-one_is true = refl
-one_is false = refl
-
 module _ (j l : List ℕ) (rs : List Run) (w : Bool) (u n : ℕ) (v : Bool) (room : u ≤ length j) (e : take u j ≡ l ++ entry rs w) (r : LastRead j u n v) where
   size : u ≡ length l + (1 + 2 * length rs)
   size =
@@ -237,7 +234,7 @@ module _ (h : Ledger) (st j : List ℕ) where
         room = omega (arith, lent.used_most, lent.journal_long)
 
         split : take h.used j ≡ l ++ entry rs c.value
-        split = (rw e at q.journal) ∙ ap (λ (x : List ℕ). l ++ x) (standing_entry m.capacity s c stands)
+        split = (rw e at q.journal) ∙ ap (λ (x : List ℕ). l ++ x) (standing_entry s c)
 
         ok : storage_refusal h.set (length st) ≡ 0
         ok = set_accepts h h.journal (length st) (length j) lent

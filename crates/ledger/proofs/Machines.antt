@@ -36,17 +36,14 @@ unfolding written need_of
 written_length s a e v = length_entry (changed_runs s a e v) v
 
 -- what a standing call put into the journal
-pub standing_entry : (c : ℕ) (s : Positions) (x : Standing) → Stands c s x
-    → written s x.start x.end x.value ≡ entry (changed_runs s x.start x.end x.value) x.value
+pub standing_entry : (s : Positions) (x : Standing) → written s x.start x.end x.value ≡ entry (changed_runs s x.start x.end x.value) x.value
 unfolding written
-standing_entry c s x k = refl
+standing_entry s x = refl
 
 -- a standing call needed at least one number
 pub needed_some : (c : ℕ) (s : Positions) (x : Standing) → Stands c s x → 0 < x.needed
-unfolding standing_call
-needed_some c s x k =
-    omega
-    (arith, ap (λ (y : Standing). y.needed) k.as_made, written_length s x.start x.end x.value, ap length (standing_entry c s x k), length_entry (changed_runs s x.start x.end x.value) x.value)
+unfolding standing_call need_of
+needed_some c s x k = omega (arith, ap (λ (y : Standing). y.needed) k.as_made)
 
 -- after an accepted marking or clearing the set is `assigned` of the set before
 pub set_after_range : (m : Machine) (a e : ℕ) (v : Bool) → set_of (next_of m (range a e v)) ≡ assigned (set_of m) a e v

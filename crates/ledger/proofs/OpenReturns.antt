@@ -209,10 +209,6 @@ module _ (file : List ℕ) (j n k : ℕ) where
 
 -- ---- `open`: accepted
 
--- the head that the set's `new` gives for the file's capacity
-pub file_head : (capacity : ℕ) (W : ℕ) (h : RangeBitset) → capacity ≡ 64 * W → h ≡ fresh_head (capacity / 64) → h ≡ fresh_head W
-file_head capacity W h e q = let p : capacity / 64 ≡ W = omega arith in q ∙ ap fresh_head p
-
 module _ (file : List ℕ) (j : ℕ) (st lent : List ℕ) (h : Headed file) (a : allowed_capacity (saved_capacity file) ≡ true) (l : j ≤ 16384) (w : Whole file)
     (e : lent_enough (saved_words file) j (length st) (length lent) ≡ true) (c : Ascending 0 (saved_capacity file) (saved_runs file))
     (h' : RangeBitset) (st' : List ℕ) (long : length st' ≡ length st)

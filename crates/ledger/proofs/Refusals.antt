@@ -1,6 +1,6 @@
 -- Laws of the refusals: what a declined call promises; and of 2 and 3, what each test of the code decides, what an accepted head and
 -- lent slices say, and that the head a call gives is accepted again. Assumes nothing.
-use Rattle.ledger.proofs.Kit.{◌≡◌, refl, sym, ap, ◌∙◌, Bool, true, false, ◌&&◌, cond, List, ℕ, ◌/◌, ◌≤◌, ◌<◌, arith, leb-true, le-leb, lt-leb, eq-eqb, ne_eqb, eqb, leb}
+use Rattle.ledger.proofs.Kit.{◌≡◌, ◌≢◌, refl, ap, sym, inr, ◌∙◌, Bool, true, false, ◌&&◌, cond, List, ℕ, ◌-◌, ◌/◌, ◌≤◌, ◌<◌, arith, leb-true, le-leb, lt-leb, leb}
 use Rattle.positions.proofs.Bools.{and_left, and_right}
 use Rattle.positions.specs.Positions.{Positions}
 use Rattle.range_bitset.specs.Layout.{needed}
@@ -13,20 +13,24 @@ use Rattle.range_bitset.specs.Answers.{allowed_capacity, good_head, head_refusal
 use Rattle.range_bitset.proofs.AcceptedHeads.{good_bounds, head_declined, storage_accepted, accepted_storage, storage_short, storage_three, represented_good, fresh_good}
 use Rattle.ledger.specs.Machine.{Machine, Call, range, back, wipe, step}
 use Rattle.ledger.specs.Memory.{Memory, call_refusal, Holds, good_ledger, lent_enough, refusal_for, lent_refusal, wipe_refusal}
-use Rattle.ledger.specs.Entries.{CallEnsures, flag_after, new_head}
+use Rattle.ledger.specs.Entries.{CallEnsures, call_need, flag_after, most_need, new_head, ranges}
 use Rattle.ledger.specs.declared.Ledger.{Ledger}
 use Rattle.ledger.proofs.Machines.{stayed}
 
--- ---- a call that the table refuses, given that the machine refuses it too
+-- ---- a call that is refused, given that the machine refuses it too
 
-pub refused_call : (c : Call) (x : Memory) (k : ℕ) → k ≡ call_refusal c x → (k ≡ 0 → ⊥)
+-- by the table; or, where the table lets it pass, since it needs more numbers than are left
+pub declined_call : (c : Call) (x : Memory) (k : ℕ) → (call_refusal c x ≢ 0 → k ≡ call_refusal c x)
+    → (call_refusal c x ≡ 0 → (k ≡ 6) × (ranges c ≡ true)
+    × ((s : Positions) → Represents x.head.set x.storage s → x.head.journal - x.head.used < call_need c s)
+    × (most_need c ≤ x.head.journal - x.head.used → ⊥))
     → ((m : Machine) → Holds x m → step m c ≡ stayed m k) → CallEnsures c x (refusal k) x
-refused_call c x k e z f =
+declined_call c x k e p f =
     record {
-      refuses = λ w. ap refusal e;
-      only_6 = λ w. absurd (z (e ∙ w));
-      exactly_6 = λ w. absurd (z (e ∙ w));
-      short_6 = λ w. absurd (z (e ∙ w));
+      refuses = λ w. ap refusal (e w);
+      only_6 = λ w. let q = p w in inr (ap refusal q.0, q.1);
+      exactly_6 = λ w s y. let q = p w in q.0 ∙ sym (ap (λ (b : Bool). cond b 0 6) (lt-leb _ _ (q.2 s y)));
+      short_6 = λ w o. absurd ((p w).3 o);
       unchanged = λ w. refl;
       same_words = refl;
       same_limit = refl;
@@ -42,6 +46,10 @@ refused_call c x k e z f =
     same m (range a e v) = refl
     same m back = refl
     same m wipe = refl
+
+pub refused_call : (c : Call) (x : Memory) (k : ℕ) → k ≡ call_refusal c x → (k ≡ 0 → ⊥)
+    → ((m : Machine) → Holds x m → step m c ≡ stayed m k) → CallEnsures c x (refusal k) x
+refused_call c x k e z f = declined_call c x k (λ w. e) (λ w. absurd (z (e ∙ w))) f
 
 -- ---- a good head
 
@@ -140,14 +148,6 @@ pub fresh_refusal : (capacity j n k : ℕ) → allowed_capacity capacity ≡ tru
     → lent_refusal (new_head (capacity / 64) j false) n k ≡ cond (lent_enough (capacity / 64) j n k) 0 3
 unfolding refusal_for
 fresh_refusal capacity j n k a l = rw (good_again (new_head (capacity / 64) j false) (fresh_good capacity a) l (omega arith))
-
-pub fresh_enough : (capacity j n k r : ℕ) → allowed_capacity capacity ≡ true → j ≤ 16384 → r ≡ lent_refusal (new_head (capacity / 64) j false) n k
-    → lent_enough (capacity / 64) j n k ≡ eqb r 0
-fresh_enough capacity j n k r a l e = go (lent_enough (capacity / 64) j n k) (e ∙ fresh_refusal capacity j n k a l)
-  where
-    go : (b : Bool) → r ≡ cond b 0 3 → b ≡ eqb r 0
-    go true q = sym (eq-eqb r 0 q)
-    go false q = sym (ne_eqb r 0 (λ z. absurd (omega arith)))
 
 -- ---- the head that a call gives: the same words and journal length, a population that counts a set, U within J
 

@@ -1,5 +1,5 @@
 -- Laws of `replay`: one call more, and what the chain of all comes to. Assumes nothing.
-use Rattle.std.proofs.Common.{◌≡◌, refl, sym, ◌∙◌, ap, List, [], ◌∷◌, ◌++◌, ℕ, ◌+◌, ◌<◌, min, arith, add-one, length, get_or, drop, set}
+use Rattle.std.proofs.Common.{◌≡◌, sym, ◌∙◌, ap, List, [], ◌∷◌, ◌++◌, ℕ, ◌+◌, ◌<◌, min, arith, add-one, length, get_or, drop, set}
 use Rattle.std.proofs.Math.Seq.{take-suc, take-suc-set}
 use Rattle.std.proofs.lemmas.List.{map-append, drop-set-lt, drop-drop}
 use Rattle.positions.specs.Replies.{Reply}

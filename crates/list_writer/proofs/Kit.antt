@@ -7,7 +7,6 @@ pub use lib.Seq.{drop_at, drop-set-lt, ext_get_or, get_or-drop, get_or-set_other
 pub use mathlib.Core.Bool.{Bool, cond, false, true, true≢false}
 pub use mathlib.Core.List.{List, [], ◌++◌, ◌∷◌, append_assoc}
 pub use mathlib.Core.Logic.{◌⊎◌, inl, inr}
-pub use mathlib.Core.Path.{◌∙◌, ◌≡◌, ap, ap₂, refl, subst, sym}
+pub use mathlib.Core.Path.{◌∙◌, ◌≡◌, ap, ap₂, refl, sym}
 pub use native.Mathlib.Nat.{add-zero, zero-add}
-pub use native.Mathlib.Numerals.{add-one}
 pub use native.Mathlib.Omega.{arith}

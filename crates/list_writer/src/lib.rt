@@ -4,7 +4,7 @@
 // Assumes nothing of its callers: the entry has no `requires`.
 #![tactic(auto)]
 
-ghost use Rattle.std.specs.Prelude.{◌≡◌, false, ◌+◌, ◌*◌, ◌^◌, ◌≤◌, ◌<◌, length};
+ghost use Rattle.std.specs.Prelude.{◌≡◌, false, ◌+◌, ◌*◌, ◌≤◌, ◌<◌, length};
 ghost use Rattle.saved_list.specs.Format.{header_bytes, run_bytes};
 ghost use Rattle.set_runs.specs.Walks.{WritesRuns};
 ghost use Rattle.list_writer.specs.Entry.{WriteEnsures};

@@ -1,9 +1,14 @@
 -- Laws of `count_from` and `count`, how many positions of a range a set has: those of `sum_over` at 1, and what holds of
 -- counts alone. Assumes nothing.
-use Rattle.positions.proofs.Kit.{◌≡◌, refl, sym, ap, ◌∙◌, Bool, true, false, ℕ, zero, suc, ◌+◌, ◌-◌, ◌*◌, ◌≤◌, ◌<◌, le_refl, mul-one, not-suc-le-zero, one-mul, zero-mul, arith}
+use Rattle.positions.proofs.Kit.{◌≡◌, refl, sym, ap, ◌∙◌, Bool, true, false, ℕ, zero, suc, ◌+◌, ◌-◌, ◌*◌, ◌≤◌, ◌<◌, le_refl, mul-one, not-suc-le-zero, one-mul, zero-mul, arith, eqb}
 use Rattle.positions.specs.Positions.{Positions, only_if, one, sum_over, count_from, count, total}
 use Rattle.positions.proofs.Sums as S
 use Rattle.positions.proofs.Totals as T
+
+-- what counts 1 is in the set
+pub one_is : (b : Bool) → eqb (one b) 1 ≡ b
+one_is true = refl
+one_is false = refl
 
 module _ (s : ℕ → Bool) where
   pub count_from_zero : (a : ℕ) → count_from s a zero ≡ zero

@@ -1,5 +1,5 @@
 -- Laws of searches: what `first` finds, and what proves that it finds it. Assumes nothing.
-use Rattle.positions.proofs.Kit.{◌≡◌, refl, ◌⊎◌, inl, inr, Bool, true, false, not, cond, true≢false, false≢true, ℕ, zero, suc, ◌+◌, ◌-◌, ◌≤◌, ◌<◌, arith, ltb-true, ltb-false, ltb}
+use Rattle.positions.proofs.Kit.{◌≡◌, refl, ⊎_elim, Bool, true, false, not, cond, true≢false, false≢true, ℕ, zero, suc, ◌+◌, ◌-◌, ◌≤◌, ◌<◌, eq-or-lt_of_le, arith, ltb-true, ltb-false, ltb}
 use Rattle.positions.specs.Positions.{Positions, Place, found_at, not_found, differ, first_from, first}
 use Rattle.positions.specs.Walks.{Lacks, Stops, below}
 
@@ -67,19 +67,8 @@ first_at s v a e p h =
 
 -- and the answer has its meaning
 
-at_or_above : (a i : ℕ) → a ≤ i → (a ≡ i) ⊎ (a < i)
-at_or_above a i h = go (ltb a i) refl
-  where
-    go : (b : Bool) → ltb a i ≡ b → (a ≡ i) ⊎ (a < i)
-    go true x = inr (ltb-true a i x)
-    go false x = let k : i ≤ a = ltb-false a i x in inl (omega arith)
-
 lacks_more : (s : Positions) (v : Bool) (a e : ℕ) → s a ≡ not v → Lacks s v (suc a) e → Lacks s v a e
-lacks_more s v a e x h i u w = go (at_or_above a i u)
-  where
-    go : (a ≡ i) ⊎ (a < i) → s i ≡ not v
-    go (inl q) = rw (← q) x
-    go (inr q) = h i q w
+lacks_more s v a e x h i u w = ⊎_elim (λ q. rw (← q) x) (λ q. h i q w) (eq-or-lt_of_le u)
 
 searched_more : (s : Positions) (v : Bool) (a e : ℕ) → s a ≡ not v → (f : Place) → Searched s v (suc a) e f → Searched s v a e f
 searched_more s v a e x f (hit p h) =

@@ -1,8 +1,8 @@
 -- A storage begun holds the empty set, whatever stood there. Assumes nothing.
-use Rattle.range_bitset.proofs.Kit.{◌≡◌, ap, sym, ◌∙◌, subst, Bool, true, false, not, ◌&&◌, false≢true, List, ℕ, ◌+◌, ◌*◌, ◌/◌, ◌<◌, arith, drop}
+use Rattle.range_bitset.proofs.Kit.{◌≡◌, ap, sym, ◌∙◌, subst, Bool, true, false, not, ◌&&◌, false≢true, List, ℕ, ◌+◌, ◌*◌, ◌/◌, ◌<◌, arith}
 use Rattle.positions.specs.Positions.{Positions}
 use Rattle.bits.proofs.Words.{mask_ext, mask_none}
-use Rattle.range_bitset.specs.Layout.{blocks, needed, at, top_nonzero, top_full, Slot}
+use Rattle.range_bitset.specs.Layout.{blocks, at, top_nonzero, top_full, Slot}
 use Rattle.range_bitset.specs.Represents.{word_of, any_block, all_block, closed, masked, Stored}
 use Rattle.range_bitset.specs.Inner.{Room, In, stores, find, beginning, Begins}
 use Rattle.range_bitset.proofs.Slots.{stores_at, leaves_kept}
@@ -43,11 +43,4 @@ module _ (W : ℕ) (begun : Bool) (st st' : List ℕ) where
       record {
         storage_kept = leaves_kept W st room.long beginning (omega arith) e;
         holds = λ s p q. subst (λ (x : List ℕ). Stored W x s) (sym e) (begin_clear W st room s (q f));
-      }
-
-  pub begins_old : begun ≡ true → st' ≡ st → Begins W begun st st'
-  begins_old t e =
-      record {
-        storage_kept = ap (drop (needed W)) e;
-        holds = λ s p q. subst (λ (x : List ℕ). Stored W x s) (sym e) (p t);
       }

@@ -8,15 +8,12 @@ use Rattle.positions.proofs.Assigned.{assigned_count, assigned_empty, assigned_n
 use Rattle.bits.proofs.Bits.{bit_pow}
 use Rattle.range_bitset.specs.Layout.{needed}
 use Rattle.range_bitset.specs.Represents.{Stored, Represents, capacity_of}
-use Rattle.positions.specs.Replies.{Reply, number, refusal, Accepted}
+use Rattle.positions.specs.Replies.{Reply, number, Accepted}
 use Rattle.range_bitset.specs.Answers.{range_refusal, point_refusal, storage_refusal}
 use Rattle.range_bitset.specs.Entries.{Changes, AssignEnsures, SetEnsures, ClearEnsures}
 use Rattle.range_bitset.specs.Inner.{Room, Spans, Begins, Assigns}
 use Rattle.range_bitset.specs.declared.RangeBitset.{RangeBitset}
 use Rattle.std.proofs.Common.{Ok}
-use Rattle.answers.specs.Refusals.{number_of}
-use Rattle.answers.specs.declared.Refusal.{Refusal}
-use Rattle.answers.proofs.Numbers.{number_some}
 use Rattle.range_bitset.proofs.AgreeingSets.{stored_agrees}
 use Rattle.range_bitset.proofs.AcceptedHeads.{range_accepted, point_accepted}
 
@@ -26,24 +23,9 @@ head_of W n x = record { words = W; len = n; allocated = x }
 head_is : (h : RangeBitset) (n : ℕ) (x : Bool) → h.len ≡ n → h.allocated ≡ x → h ≡ head_of h.words n x
 head_is h n x p q = λ i. record { words = h.words; len = p i; allocated = q i }
 
--- ---- the three ways out
+-- ---- the two ways out
 
 module _ {f : Positions → Reply} {g : Positions → Positions} {begins clears : Bool} (k : ℕ) (h : RangeBitset) (st : List ℕ) where
-  -- refused
-  pub unaccepted : (n : Refusal) → number_of n ≡ k → Changes k h st f g begins clears (refusal (number_of n)) h st
-  unaccepted n e =
-      record {
-        refuses = e;
-        accepts = λ w. absurd (number_some n (e ∙ w));
-        unchanged = λ w. (refl, refl);
-        storage_kept = refl;
-        same_words = refl;
-        idle = λ w o. (refl, refl);
-        answers = λ w. absurd (number_some n (e ∙ w));
-        head = λ w. absurd (number_some n (e ∙ w));
-        represents = λ w. absurd (number_some n (e ∙ w));
-      }
-
   -- accepted, and the set is as it was
   pub same_set : (r : Reply) → k ≡ 0 → Accepted r → ((s : Positions) → Represents h st s → (r ≡ f s) × (g s ≡ s) × (h.allocated ≡ (h.allocated || begins)))
       → Changes k h st f g begins clears r h st

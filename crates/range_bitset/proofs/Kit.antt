@@ -1,10 +1,9 @@
 -- The kit's names that the proofs of this crate use. Assumes nothing.
 pub use Prim.Native.Nat.{◌%◌, ◌*◌, ◌+◌, ◌-◌, ◌/◌, ◌<◌, ◌^◌, ◌≤◌, suc, zero, zero-le, ℕ}
-pub use borrow.Author.Rules.{rules}
 pub use borrow.Author.Tests.{eq-eqb, eqb-false, eqb-true, le-leb, le-ltb, leb-true, lt-leb, lt-ltb, ltb-false, ltb-true, ne_eqb, not-false, not-true}
 pub use lib.Arith.{lt_of_le-ne}
 pub use lib.Bits.{and_le_l, and_le_r, and_mask, bit_and}
-pub use lib.Count.{leading_le, leading_of_zero, count_leading_zeros, ones-le, ones-ones, trailing_le, trailing_of_zero, count_trailing_zeros}
+pub use lib.Count.{leading_of_zero, count_leading_zeros, ones-le, ones-ones, trailing_le, trailing_of_zero, count_trailing_zeros}
 unfoldable pub use lib.Count.{ones}
 pub use lib.Dec.{eqb, leb, ltb}
 pub use lib.ListN.{drop, get_or, length, length-drop, length-set, take}

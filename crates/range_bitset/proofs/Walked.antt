@@ -1,6 +1,6 @@
 -- What the counting functions compute on any memory: the walks over a mask's bits, the population of a mixed block's words
 -- by its masks, and of whole blocks by the top masks. Assumes nothing.
-use Rattle.range_bitset.proofs.Kit.{◌≡◌, refl, sym, ap, ap₂, subst, ◌∙◌, ◌≢◌, Bool, true, false, not, ◌&&◌, cond, List, ℕ, ◌+◌, ◌*◌, ◌-◌, ◌/◌, ◌%◌, ◌^◌, ◌≤◌, ◌<◌, lt_of_lt_of_le, lt_of_le_of_lt, mul-zero, arith, bit_and, and_le_l, and_le_r, ones, ones-le, ones-ones, count_trailing_zeros, length, length-drop, get_or, take, drop, get_or-take, get_or-drop, length-take-le, pow_mono, not-true, and-false, dec_lt}
+use Rattle.range_bitset.proofs.Kit.{◌≡◌, refl, sym, ap, ap₂, ◌∙◌, ◌≢◌, Bool, true, false, not, ◌&&◌, cond, List, ℕ, ◌+◌, ◌*◌, ◌-◌, ◌/◌, ◌%◌, ◌^◌, ◌≤◌, ◌<◌, lt_of_lt_of_le, lt_of_le_of_lt, mul-zero, arith, bit_and, and_le_l, and_le_r, ones, ones-le, ones-ones, count_trailing_zeros, length, length-drop, get_or, take, drop, get_or-take, get_or-drop, length-take-le, pow_mono, not-true, and-false, dec_lt}
 use Rattle.std.specs.Prelude.{slice_range}
 use Rattle.positions.specs.Positions.{sum_over, count_from}
 use Rattle.positions.proofs.Bools.{and_left, and_right, same₂, same₃}
@@ -63,10 +63,6 @@ pub kept_step : (W : ℕ) (st : List ℕ) (r : Room W st) (all sum : ℕ) {m b m
 kept_step W st r all sum {m = m} {b = b} {slot = slot} q h a e =
     let k : get_or st slot 0 ≡ at W st (population b) = ap (λ (x : ℕ). get_or st x 0) a in
     omega (arith, k, e, taken q (λ (c : ℕ). at W st (population c)) (blocks_word W st r m h))
-
--- at most a word's bits
-pub ones_left : (x m : ℕ) → m < 2 ^ 64 → ones (bit_and m x) ≤ 64
-ones_left x m h = ones-le 64 (bit_and m x) (lt_of_le_of_lt (and_le_l m x) h)
 
 -- ---- a pair of masks: v where the first has a bit, a term where only the second has one, and nothing else
 
@@ -200,16 +196,8 @@ module _ (W : ℕ) (st : List ℕ) (b m : ℕ) where
 -- block b by its data words l and a mask m of them
 module _ (W : ℕ) (st : List ℕ) (room : Room W st) (b m : ℕ) (there : b < blocks W) (h : m < 2 ^ words_of W b) (l : List ℕ)
     (is : l ≡ slice_range st (64 * b) (64 * b + words_of W b)) where
-  data_long : length l ≡ words_of W b
-  data_long = ap length is ∙ part_long st (64 * b) (words_of W b) (omega (arith, room.long, there))
-
   data_at : (j : ℕ) → j < words_of W b → get_or l j 0 ≡ get_or st (64 * b + j) 0
   data_at j u = ap (λ (x : List ℕ). get_or x j 0) is ∙ part_at st (64 * b) (words_of W b) j u
-
-  -- what `stored_population` asks
-  pub explicit_fits : (F N : ℕ) → (length l ≤ 64) × (explicit_words F N m < 2 ^ length l)
-  explicit_fits F N =
-      (omega (arith, data_long), subst (λ (x : ℕ). explicit_words F N m < 2 ^ x) (sym data_long) (lt_of_le_of_lt (and_le_r (bit_and N ((2 ^ 64 - 1) - bit_and F m)) m) h))
 
   -- by the masks at the slots f and n
   pub mixed_total : (f n : ℕ) → f ≡ address W (full b) → n ≡ address W (nonzero b)

@@ -1,6 +1,5 @@
 -- The kit's names that the proofs of this crate use. Assumes nothing.
 pub use Prim.Native.Nat.{◌%◌, ◌/◌, ◌<◌, ◌≤◌, ℕ}
-pub use borrow.Author.Rules.{rules}
 pub use borrow.Author.Tests.{eqb-false, eqb-true, ltb-false, lt-ltb, le-ltb, ne_eqb}
 pub use lib.Dec.{eqb, leb, ltb}
 pub use lib.ListN.{drop, length, take}

@@ -21,7 +21,7 @@ use Rattle.saved_list.proofs.Lists.{good_longest}
 use Rattle.saved_list.proofs.WrittenFiles.{Writable, capacity_back, count_back, saved_back, written_good, good_again}
 use Rattle.ledger.specs.Memory.{memory, lent_enough, Holds}
 use Rattle.ledger.specs.Machine.{opened_with, set_of, used}
-use Rattle.ledger.specs.Entries.{Opened, of_opened, open_reply, OpenEnsures}
+use Rattle.ledger.specs.Entries.{Opened, open_reply, OpenEnsures}
 use Rattle.ledger.specs.declared.Ledger.{Ledger}
 use Rattle.ledger.specs.declared.NotOpened.{NotOpened}
 use Rattle.ledger.specs.declared.NotOpened.TheVariants as why
@@ -235,23 +235,6 @@ module _ (file : List ℕ) (j : ℕ) (st journal buffer : List ℕ) where
   pub agrees_short : (l : Ledger) (st' : List ℕ) (k : Refusal) (buffer' : List ℕ) → Bytes file → OpenEnsures file j st journal (Ok l) st'
       → WriteEnsures l.set st' buffer (Err k) buffer' → Agrees file j (length st) (length journal) buffer (Err (why.Refused k)) buffer'
   agrees_short l st' k buffer' b o p = agrees_opened l st' (Err k) buffer' b o p (Err (why.Refused k)) refl
-
-  -- not opened
-  pub agrees_declined : (w : NotOpened) (st' : List ℕ) → OpenEnsures file j st journal (Err w) st' → Agrees file j (length st) (length journal) buffer (Err w) buffer
-  agrees_declined w st' o =
-      record {
-        answers = declined w (open_reply file j (length st) (length journal)) o.refuses;
-        agrees = λ a. absurd (not_written w a);
-        unchanged = λ a. refl;
-      }
-    where
-      not_written : (w : NotOpened) → Accepted (of_written (Err w)) → ⊥
-      not_written (why.Refused k) a = a
-      not_written (why.BadRun i) a = a
-
-      declined : (w : NotOpened) (x : Reply) → of_opened (Err w) ≡ x → of_written (Err w) ≡ then x (write_reply file (length buffer))
-      declined (why.Refused k) x e = subst (λ (y : Reply). of_written (Err (why.Refused k)) ≡ then y (write_reply file (length buffer))) e refl
-      declined (why.BadRun i) x e = subst (λ (y : Reply). of_written (Err (why.BadRun i)) ≡ then y (write_reply file (length buffer))) e refl
 
 -- what is answered lies in the buffer
 pub agreed_inside : (file : List ℕ) (j n k : ℕ) (buffer : List ℕ) (r : Result ℕ NotOpened) (m : ℕ) (buffer' : List ℕ) → Agrees file j n k buffer r buffer' → r ≡ Ok m

@@ -1,6 +1,6 @@
 -- Laws of the walk: a search's place, the runs by two searches each, counted, few enough, and written by those above, each run as
 -- the numbers that `code` makes of it. Assumes nothing.
-use Rattle.set_runs.proofs.Kit.{◌≡◌, refl, sym, ap, ◌∙◌, ◌⊎◌, inl, inr, Bool, true, false, not, Bool·not-not, List, [], ◌∷◌, ◌++◌, append_assoc, append-nil, ℕ, ◌+◌, ◌*◌, ◌-◌, ◌%◌, ◌≤◌, ◌<◌, arith, leb-true, leb-false, le-leb, lt-leb, leb, length, get_or, take, subst, ◌^◌, ap₂, dec_lt}
+use Rattle.set_runs.proofs.Kit.{◌≡◌, refl, sym, ap, ◌∙◌, ◌⊎◌, inl, inr, Bool, true, false, not, Bool·not-not, List, [], ◌∷◌, ◌++◌, append_assoc, append-nil, ℕ, ◌+◌, ◌*◌, ◌-◌, ◌%◌, ◌≤◌, ◌<◌, arith, leb-true, leb-false, le-leb, leb, length, get_or, take, subst, ◌^◌, ap₂, dec_lt}
 use Rattle.positions.specs.Positions.{Positions, Place, found_at, not_found, first}
 use Rattle.positions.specs.Runs.{Run, run, place_or, run_end, changed_runs, encoded}
 use Rattle.positions.proofs.Searches.{Searched, hit, miss, first_means}
@@ -30,9 +30,6 @@ found_as not_found p e = cc
 pub found_not : (f : Place) → of_position None ≡ of_place f → f ≡ not_found
 found_not (found_at i) e = cc
 found_not not_found e = refl
-
-pub found_or : (f : Place) (e : ℕ) (r : Option ℕ) → of_position r ≡ of_place f → (p : ℕ) → (r ≡ Some p → p ≡ place_or e f) × (r ≡ None → e ≡ place_or e f)
-found_or f e r x p = (λ y. ap (place_or e) (sym (found_as f p (ap of_position (sym y) ∙ x))), λ y. ap (place_or e) (sym (found_not f (ap of_position (sym y) ∙ x))))
 
 -- ---- the changed runs by two searches: p the first position to change, q the first behind it that is not
 
@@ -95,9 +92,6 @@ Counting h st a e v n from =
     range_refusal h (length st) e ≡ 0 → (s : Positions) → Represents h st s
     → n + length (changed_runs s from e v) ≡ length (changed_runs s a e v)
 
-pub counting_start : (h : RangeBitset) (st : List ℕ) (a e : ℕ) (v : Bool) → Counting h st a e v 0 a
-counting_start h st a e v z s r = omega arith
-
 pub counting_next : (h : RangeBitset) (st : List ℕ) (a e : ℕ) (v : Bool) (n from p q : ℕ)
     → FindsRun h st from e v p q → Counting h st a e v n from → Counting h st a e v (n + 1) q
 counting_next h st a e v n from p q x k z s r =
@@ -134,13 +128,6 @@ pub fits_short : (h : RangeBitset) (st : List ℕ) (a e : ℕ) (v : Bool) (most 
 fits_short h st a e v most l =
     record { short = λ x. refl; fits = λ z s r. sym (le-leb (length (changed_runs s a e v)) most (omega (arith, changed_few s a e v))) }
 
-pub fits_counted : (h : RangeBitset) (st : List ℕ) (a e : ℕ) (v : Bool) (most n : ℕ) → 2 * most < e - a → CountsRuns h st a e v (most + 1) n → RunsFit h st a e v most (leb n most)
-fits_counted h st a e v most n l c = record { short = λ x. absurd (omega arith); fits = λ z s r. by z s r (leb n most) refl }
-  where
-    by : range_refusal h (length st) e ≡ 0 → (s : Positions) → Represents h st s → (b : Bool) → leb n most ≡ b → b ≡ leb (length (changed_runs s a e v)) most
-    by z s r true x = sym (le-leb (length (changed_runs s a e v)) most (omega (arith, leb-true n most x, c.counted z s r)))
-    by z s r false x = sym (lt-leb (length (changed_runs s a e v)) most (omega (arith, leb-false n most x, c.counted z s r)))
-
 -- ---- writing
 
 -- i runs are written from u to `at`, and the rest lie from `from` on; x₀ is the list before, x as it is now
@@ -151,10 +138,6 @@ pub record Writing (code : Run → List ℕ) (h : RangeBitset) (st : List ℕ) (
   pub left : Counting h st a e v i from
   pub so_far : range_refusal h (length st) e ≡ 0 → (s : Positions) → Represents h st s
       → take at x ++ encoded code (changed_runs s from e v) ≡ take u x₀ ++ encoded code (changed_runs s a e v)
-
-pub writing_start : (code : Run → List ℕ) (h : RangeBitset) (st : List ℕ) (a e : ℕ) (v : Bool) (u : ℕ) (x : List ℕ) → Writing code h st a e v u x x 0 u a
-writing_start code h st a e v u x =
-    record { low = omega arith; same_length = refl; others = λ k l. refl; left = counting_start h st a e v; so_far = λ z s r. refl }
 
 -- the numbers l put into the list x from `at` to at'; x' is the list afterwards
 pub record Puts (l : List ℕ) (at at' : ℕ) (x x' : List ℕ) : Type 0 where

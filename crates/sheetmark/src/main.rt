@@ -3,7 +3,7 @@
 // largest set's storage and the longest journal. Assumes that std's read and write do what they say.
 #![tactic(auto)]
 
-ghost use Rattle.std.specs.Prelude.{◌≡◌, true, false, List, [], ℕ, ◌+◌, ◌≤◌, length};
+ghost use Rattle.std.specs.Prelude.{◌≡◌, List, [], ℕ, ◌+◌, ◌≤◌, length};
 ghost use Rattle.answers.specs.Refusals.{head_after};
 ghost use Rattle.ledger.specs.Entries.{of_called};
 ghost use Rattle.sheetmark.specs.Performing.{Leaves};

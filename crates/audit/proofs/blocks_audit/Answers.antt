@@ -1,6 +1,5 @@
 -- `audit::blocks_audit` meets its contract. Assumes nothing.
-use Rattle.audit.proofs.AuditBlocks.{sound_with, unsound}
-use Rattle.audit.proofs.Audits.{blocks_first, blocks_next, blocks_stop, reach_first, reach_next, reach_most, reach_all}
+use Rattle.audit.proofs.Audits.{blocks_first, blocks_next, reach_first, reach_next, reach_most}
 use Rattle.range_bitset.proofs.AcceptedHeads.{accepted}
 use Rattle.range_bitset.proofs.SetWords.{block_most}
 use Rattle.range_bitset.specs.Layout.{blocks}
@@ -10,14 +9,6 @@ use Rattle.audit.proofs.blocks_audit.Goals as goal
 
 pub loop-block-init : goal.loop-block-init
 loop-block-init c = (blocks_first _ _, reach_first _ _)
-
-pub block_audit-requires : goal.block_audit-requires
-block_audit-requires c = (c.requires, omega (arith, c.div_ceil-block-end.ensures))
-
-pub returns-in_err-population : goal.returns-in_err-population
-returns-in_err-population c =
-    let h : c.loop-block.block < blocks c.args.head.words = omega (arith, c.div_ceil-block-end.ensures) in
-    rw c.from_residual.ensures (unsound (blocks_stop _ _ c.loop-block.block h c.in_err-population.ensures refl))
 
 pub overflow_add-population : goal.overflow_add-population
 overflow_add-population c =
@@ -40,8 +31,3 @@ loop-block-preserved c =
       blocks_next _ _ c.loop-block.block inv.0 told.0,
       ap₂ ◌+◌ inv.1 told.1 ∙ reach_next _ _ _ h,
     )
-
-pub returns : goal.returns
-returns c =
-    let inv = c.loop-block.invariant in
-    sound_with (λ b h. inv.0 b (omega (arith, c.div_ceil-block-end.ensures))) (inv.1 ∙ reach_all _ _ _ (omega (arith, c.div_ceil-block-end.ensures)))

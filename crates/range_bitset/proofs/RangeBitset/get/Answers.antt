@@ -1,12 +1,8 @@
 -- `range_bitset::RangeBitset::get` meets its contract. Assumes nothing.
-use Rattle.range_bitset.proofs.QueryReturns.{declined, get_fresh, get_begun}
+use Rattle.range_bitset.proofs.QueryReturns.{get_fresh, get_begun}
 use Rattle.range_bitset.proofs.AcceptedHeads.{point_accepted}
 use Rattle.range_bitset.proofs.Kit.{not-true, not-false, arith, sym}
-use Rattle.answers.proofs.Numbers.{passed_on}
 use Rattle.range_bitset.proofs.RangeBitset.get.Goals as goal
-
-pub returns-in_err-check_point : goal.returns-in_err-check_point
-returns-in_err-check_point c = rw (passed_on _ c.from_residual.ensures.1) (declined _ _ _ _ c.in_err-check_point.ensures)
 
 pub returns-then-not-self : goal.returns-then-not-self
 returns-then-not-self c = get_fresh _ _ _ (sym c.in_ok-check_point.ensures) (not-true _ c.if-not-self.true)

@@ -1,14 +1,6 @@
 -- `range_bitset::RangeBitset::next_after` meets its contract: one law of SearchReturns for each return. Assumes nothing.
 use Rattle.range_bitset.proofs.SearchReturns.{in_same_block, word_there, past, no_block, block_there, none_in_block, later_there, in_later_block}
-use Rattle.range_bitset.proofs.Kit.{bit_and, trailing_le, arith}
 use Rattle.range_bitset.proofs.RangeBitset.next_after.Goals as goal
-
-pub overflow_cast-next_word : goal.overflow_cast-next_word
-overflow_cast-next_word c = omega (arith, trailing_le 64 (bit_and c.candidate_words.result c.above.result))
-
-pub overflow_add-next_word : goal.overflow_add-next_word
-overflow_add-next_word c =
-    omega (arith, trailing_le 64 (bit_and c.candidate_words.result c.above.result), c.requires.0.most, c.requires.1)
 
 pub first_in_word-requires : goal.first_in_word-requires
 first_in_word-requires c =
@@ -22,9 +14,6 @@ pub returns-then-later_blocks-eq0 : goal.returns-then-later_blocks-eq0
 returns-then-later_blocks-eq0 c =
     λ o. no_block _ _ _ _ c.requires.1 c.requires.0.most _ _ c.candidate_blocks.ensures c.above-2.ensures c.if-later_blocks-eq0.true (past _ _ _ c.args.value c.requires.1 _ _ c.candidate_words.ensures c.above.ensures c.if-later_words-ne0.false o)
 
-pub overflow_cast-next_block : goal.overflow_cast-next_block
-overflow_cast-next_block c = omega (arith, trailing_le 64 (bit_and c.candidate_blocks.result c.above-2.result))
-
 pub candidate_words-in_block-requires : goal.candidate_words-in_block-requires
 candidate_words-in_block-requires c =
     block_there _ _ _ _ c.requires.1 c.requires.0.most _ _ c.candidate_blocks.ensures c.above-2.ensures c.if-later_blocks-eq0.false
@@ -32,16 +21,6 @@ candidate_words-in_block-requires c =
 pub returns-then-in_block-eq0 : goal.returns-then-in_block-eq0
 returns-then-in_block-eq0 c =
     λ o. none_in_block _ _ _ _ c.requires.1 c.requires.0.most _ _ c.candidate_blocks.ensures c.above-2.ensures c.if-later_blocks-eq0.false _ c.candidate_words-in_block.ensures c.if-in_block-eq0.true
-
-pub overflow_mul-next_word-2 : goal.overflow_mul-next_word-2
-overflow_mul-next_word-2 c = omega (arith, trailing_le 64 (bit_and c.candidate_blocks.result c.above-2.result))
-
-pub overflow_cast-next_word-2 : goal.overflow_cast-next_word-2
-overflow_cast-next_word-2 c = omega (arith, trailing_le 64 c.candidate_words-in_block.result)
-
-pub overflow_add-next_word-2 : goal.overflow_add-next_word-2
-overflow_add-next_word-2 c =
-    omega (arith, trailing_le 64 (bit_and c.candidate_blocks.result c.above-2.result), trailing_le 64 c.candidate_words-in_block.result)
 
 pub first_in_word-requires-2 : goal.first_in_word-requires-2
 first_in_word-requires-2 c =

@@ -1,12 +1,8 @@
 -- `range_bitset::RangeBitset::set` meets its contract. Assumes nothing.
-use Rattle.range_bitset.proofs.ChangeReturns.{unaccepted, set_idle, set_done}
+use Rattle.range_bitset.proofs.ChangeReturns.{set_idle, set_done}
 use Rattle.range_bitset.proofs.AcceptedHeads.{point_accepted, room_same}
 use Rattle.range_bitset.proofs.Kit.{arith, true≢false, ⊎_elim, sym, ◌∙◌}
-use Rattle.answers.proofs.Numbers.{passed_on}
 use Rattle.range_bitset.proofs.RangeBitset.set.Goals as goal
-
-pub returns-in_err-check_point : goal.returns-in_err-check_point
-returns-in_err-check_point c = rw (passed_on _ c.from_residual.ensures.1) (unaccepted _ _ _ _ c.in_err-check_point.ensures)
 
 pub returns-then-self-eq0 : goal.returns-then-self-eq0
 returns-then-self-eq0 c = set_idle _ _ _ _ (sym c.in_ok-check_point.ensures) (c.if-not-value.true) c.if-self-eq0.true

@@ -2,14 +2,8 @@
 use Rattle.range_bitset.proofs.Kit.{ap, arith}
 use Rattle.bits.proofs.Walks.{left_lt, walk_none}
 use Rattle.range_bitset.specs.Layout.{at, population}
-use Rattle.range_bitset.proofs.Walked.{blocks_most, lowest_block, kept_sum, kept_step}
+use Rattle.range_bitset.proofs.Walked.{lowest_block, kept_sum, kept_step}
 use Rattle.range_bitset.proofs.View.kept_populations.Goals as goal
-
-pub population_slot-requires : goal.population_slot-requires
-population_slot-requires c =
-    let p = c.args.self.room in
-    let q = c.in-Some.ensures.steps in
-    omega (arith, q.1, lowest_block _ _ p _ q.0 c.loop-block.invariant.1, blocks_most _ _ p)
 
 pub bounds-self-population_slot : goal.bounds-self-population_slot
 bounds-self-population_slot c =

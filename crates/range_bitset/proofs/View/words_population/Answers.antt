@@ -3,10 +3,6 @@ use Rattle.range_bitset.proofs.Kit.{sym, ◌∙◌, arith, ones-le}
 use Rattle.range_bitset.proofs.Walked.{words_empty, words_full, words_mixed}
 use Rattle.range_bitset.proofs.View.words_population.Goals as goal
 
-pub overflow_mul-result : goal.overflow_mul-result
-overflow_mul-result c =
-    omega (arith, ones-le 64 c.args.mask c.ranges.mask.fits)
-
 pub returns-in-Empty : goal.returns-in-Empty
 returns-in-Empty c =
     (sym (words_empty _ _ _ _ (sym c.in-Empty.ensures)), omega arith)
