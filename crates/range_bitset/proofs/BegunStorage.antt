@@ -44,3 +44,7 @@ module _ (W : ℕ) (begun : Bool) (st st' : List ℕ) where
         storage_kept = leaves_kept W st room.long beginning (omega arith) e;
         holds = λ s p q. subst (λ (x : List ℕ). Stored W x s) (sym e) (begin_clear W st room s (q f));
       }
+
+-- the same of a storage that is the same
+pub begins_to : (W : ℕ) (begun : Bool) (st : List ℕ) {st₁ st₂ : List ℕ} → st₂ ≡ st₁ → Begins W begun st st₁ → Begins W begun st st₂
+begins_to W begun st e b = subst (λ (x : List ℕ). Begins W begun st x) (sym e) b

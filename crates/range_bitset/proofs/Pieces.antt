@@ -28,6 +28,10 @@ pub record HighEnd (t e n n' : ℕ) (Done : ℕ → Type 0) : Type 0 where
 pub assigns_at : (W : ℕ) (v : Bool) (st st' : List ℕ) (n : ℕ) {a a' e e' : ℕ} → a ≡ a' → e ≡ e' → Assigns W a e v st st' n → Assigns W a' e' v st st' n
 assigns_at W v st st' n {a} {a'} {e} p q t = subst (λ (x : ℕ). Assigns W a' x v st st' n) q (subst (λ (x : ℕ). Assigns W x e v st st' n) p t)
 
+-- the same of a storage that is the same
+pub assigns_held : (W a e : ℕ) (v : Bool) (st : List ℕ) (n : ℕ) {st₁ st₂ : List ℕ} → st₂ ≡ st₁ → Assigns W a e v st st₁ n → Assigns W a e v st st₂ n
+assigns_held W a e v st n s t = subst (λ (x : List ℕ). Assigns W a e v st x n) (sym s) t
+
 -- an empty range
 assigns_none : (W a e : ℕ) (v : Bool) (st : List ℕ) → e ≤ a → Assigns W a e v st st 0
 assigns_none W a e v st h =

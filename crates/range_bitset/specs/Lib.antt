@@ -6,5 +6,6 @@ pub mod Represents
 pub mod Answers
 pub mod Entries
 pub mod Inner
+pub mod Lent
 pub mod Levels
 pub mod Shown

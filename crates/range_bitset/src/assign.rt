@@ -1,10 +1,9 @@
 // Setting or clearing a range, or one position. Assumes nothing.
 ghost use Rattle.std.specs.Prelude.{◌≡◌, ◌+◌, ◌-◌, ◌*◌, ◌%◌, ◌^◌, ◌<◌, ◌≤◌, if◌then◌else◌};
 ghost use Rattle.range_bitset.specs.Entries.{AssignEnsures, SetEnsures};
-ghost use Rattle.range_bitset.specs.Inner.{Room, Assigns};
 
 use crate::unit::{Positions, Unit};
-use crate::{RangeBitset, single};
+use crate::{RangeBitset, ViewMut, single};
 use answers::{Changed, Refusal};
 
 impl RangeBitset {
@@ -37,8 +36,9 @@ impl RangeBitset {
             });
         }
         let words = self.words as usize;
-        Self::ensure_storage(storage, words, self.allocated);
-        let changed = Self::assign_units::<Positions>(storage, words, start, end, value);
+        let mut view = ViewMut { storage, words };
+        view.ensure_storage(self.allocated);
+        let changed = view.assign_units::<Positions>(start, end, value);
         Ok(Changed {
             answer: changed,
             head: RangeBitset {
@@ -47,42 +47,6 @@ impl RangeBitset {
                 allocated: true,
             },
         })
-    }
-
-    // The rest of the Rust's `assign`, from `first_word` on, where a unit is a position; its `assign_whole_words` where it is a word.
-    pub(crate) fn assign_units<U: Unit>(
-        storage: &mut [u64],
-        words: usize,
-        from: usize,
-        to: usize,
-        value: bool,
-    ) -> u32
-        requires { Room words storage.old × (from < to) × (U.each * to ≤ 64 * words) }
-        ensures { Assigns words (U.each * from) (U.each * to) value storage.old storage.new result }
-    {
-        let first = from / 64;
-        let last = (to - 1) / 64;
-        if first == last {
-            return U::assign_part(storage, words, from, to, value);
-        }
-        let mut changed = 0u32;
-        let mut whole_from = first;
-        if from % 64 != 0 {
-            whole_from += 1;
-            changed = U::assign_part(storage, words, from, 64 * whole_from, value);
-        }
-        let mut whole_to = last + 1;
-        if to % 64 != 0 {
-            whole_to -= 1;
-            let more = U::assign_part(storage, words, 64 * whole_to, to, value);
-            changed = changed.wrapping_add(more);
-        }
-        let whole = if whole_from < whole_to {
-            U::assign_whole(storage, words, whole_from, whole_to, value)
-        } else {
-            0
-        };
-        changed.wrapping_add(whole)
     }
 
     // Set or clear one position; answers whether it changed.
@@ -102,9 +66,10 @@ impl RangeBitset {
             });
         }
         let words = self.words as usize;
-        Self::ensure_storage(storage, words, self.allocated);
         let bit = single(index % 64);
-        let changed = Self::assign_in_word(storage, words, index / 64, bit, value);
+        let mut view = ViewMut { storage, words };
+        view.ensure_storage(self.allocated);
+        let changed = view.assign_in_word(index / 64, bit, value);
         Ok(Changed {
             answer: changed != 0,
             head: RangeBitset {
@@ -113,5 +78,40 @@ impl RangeBitset {
                 allocated: true,
             },
         })
+    }
+}
+
+impl ViewMut<'_> {
+    ghost use Rattle.range_bitset.specs.Lent.{SameLoan, Gives};
+
+    // The rest of the Rust's `assign`, from `first_word` on, where a unit is a position; its `assign_whole_words` where it is a word.
+    pub(crate) fn assign_units<U: Unit>(&mut self, from: usize, to: usize, value: bool) -> u32
+        requires { (from < to) × (U.each * to ≤ 64 * self.old.words) }
+        ensures loan { SameLoan self.old self.new }
+        ensures assigned { Gives self.old self.new (U.each * from) (U.each * to) value result }
+    {
+        let first = from / 64;
+        let last = (to - 1) / 64;
+        if first == last {
+            return U::assign_part(self, from, to, value);
+        }
+        let mut changed = 0u32;
+        let mut whole_from = first;
+        if from % 64 != 0 {
+            whole_from += 1;
+            changed = U::assign_part(self, from, 64 * whole_from, value);
+        }
+        let mut whole_to = last + 1;
+        if to % 64 != 0 {
+            whole_to -= 1;
+            let more = U::assign_part(self, 64 * whole_to, to, value);
+            changed = changed.wrapping_add(more);
+        }
+        let whole = if whole_from < whole_to {
+            U::assign_whole(self, whole_from, whole_to, value)
+        } else {
+            0
+        };
+        changed.wrapping_add(whole)
     }
 }

@@ -1,7 +1,7 @@
 // Clearing every position. Assumes nothing.
 ghost use Rattle.range_bitset.specs.Entries.{ClearEnsures};
 
-use crate::RangeBitset;
+use crate::{RangeBitset, ViewMut};
 use answers::{Changed, Refusal};
 
 impl RangeBitset {
@@ -16,7 +16,8 @@ impl RangeBitset {
                 head: self,
             });
         }
-        Self::ensure_storage(storage, self.words as usize, false);
+        let words = self.words as usize;
+        ViewMut { storage, words }.ensure_storage(false);
         Ok(Changed {
             answer: self.len,
             head: RangeBitset {

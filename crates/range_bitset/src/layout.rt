@@ -2,9 +2,9 @@
 ghost use Rattle.std.specs.Prelude.{◌≡◌, ◌<◌, ◌≤◌};
 ghost use Rattle.range_bitset.specs.Layout.{blocks, words_of, address, nonzero, full, population, top_nonzero, top_full};
 ghost use Rattle.range_bitset.specs.Represents.{valid};
-ghost use Rattle.range_bitset.specs.Inner.{Room, Begins};
+ghost use Rattle.range_bitset.specs.Inner.{Begins};
 
-use crate::{ALL, RangeBitset, View};
+use crate::{ALL, RangeBitset, View, ViewMut};
 
 impl RangeBitset {
     // Not by `div_ceil`, which is three instructions longer, at every slot.
@@ -74,18 +74,29 @@ impl View<'_> {
     }
 }
 
-impl RangeBitset {
+impl ViewMut<'_> {
+    ghost use Rattle.range_bitset.specs.Lent.{SameLoan, Turns};
+
+    pub(crate) fn view(&self) -> View<'_>
+        ensures { (result.words ≡ self.now.words) × (result.storage.now ≡ self.now.storage.now) }
+    {
+        View {
+            storage: self.storage,
+            words: self.words,
+        }
+    }
+
     // The first setting zeroes the top masks, so that no other number of the storage is read; so does clearing all.
-    pub(crate) fn ensure_storage(storage: &mut [u64], words: usize, allocated: bool)
-        requires { Room words storage.old }
-        ensures { Begins words allocated storage.old storage.new }
+    pub(crate) fn ensure_storage(&mut self, allocated: bool)
+        ensures loan { SameLoan self.old self.new }
+        ensures begun { Turns self.old self.new (λ W. Begins W allocated) }
     {
         if !allocated {
-            let view = View { storage, words };
+            let view = self.view();
             let nonzero = view.top_nonzero_slot();
             let full = view.top_full_slot();
-            storage[nonzero] = 0;
-            storage[full] = 0;
+            self.storage[nonzero] = 0;
+            self.storage[full] = 0;
         }
     }
 }

@@ -116,6 +116,15 @@ pub(crate) struct View<'a> {
     ghost room: { Room words storage.now },
 }
 
+// The storage lent to be changed, for a set of `words` data words. Each method says by `SameLoan` that it still holds that storage,
+// so that the lender learns what is written.
+#[derive(Drop)]
+pub(crate) struct ViewMut<'a> {
+    storage: &'a mut [u64],
+    words: usize,
+    ghost room: { Room words storage.now },
+}
+
 // ---- what the audit is shown
 
 // The blocks that hold any set bit, those that are entirely set, and those that there are.

@@ -1,9 +1,10 @@
 // What a range is cut into, parts of 64 units: positions, of which a data word has 64, or data words, of which a block has 64. One
 // function counts a range of either (`count_units`), one sets or clears it (`assign_units`). Assumes nothing.
 ghost use Rattle.std.specs.Prelude.{◌≡◌, ℕ, ◌+◌, ◌-◌, ◌*◌, ◌/◌, ◌%◌, ◌<◌, ◌≤◌};
-ghost use Rattle.range_bitset.specs.Inner.{Room, Spans, Counts, Assigns};
+ghost use Rattle.range_bitset.specs.Inner.{Spans, Counts};
+ghost use Rattle.range_bitset.specs.Lent.{SameLoan, Gives};
 
-use crate::{RangeBitset, View, span};
+use crate::{View, ViewMut, span};
 
 pub(crate) trait Unit {
     // How many positions a unit has.
@@ -20,14 +21,16 @@ pub(crate) trait Unit {
         ensures { Counts view.entry.words (each * (64 * from)) (each * (64 * to)) view.entry.storage.now result };
 
     // Units `from..to` of one part set or cleared; answers how many positions changed.
-    fn assign_part(storage: &mut [u64], words: usize, from: usize, to: usize, value: bool) -> u32
-        requires { Room words storage.old × (from < to) × (to ≤ 64 * (from / 64) + 64) × (each * to ≤ 64 * words) }
-        ensures { Assigns words (each * from) (each * to) value storage.old storage.new result };
+    fn assign_part(view: &mut ViewMut<'_>, from: usize, to: usize, value: bool) -> u32
+        requires { (from < to) × (to ≤ 64 * (from / 64) + 64) × (each * to ≤ 64 * view.old.words) }
+        ensures loan { SameLoan view.old view.new }
+        ensures assigned { Gives view.old view.new (each * from) (each * to) value result };
 
     // The same of whole parts `from..to`.
-    fn assign_whole(storage: &mut [u64], words: usize, from: usize, to: usize, value: bool) -> u32
-        requires { Room words storage.old × (from < to) × (each * (64 * to) ≤ 64 * words) }
-        ensures { Assigns words (each * (64 * from)) (each * (64 * to)) value storage.old storage.new result };
+    fn assign_whole(view: &mut ViewMut<'_>, from: usize, to: usize, value: bool) -> u32
+        requires { (from < to) × (each * (64 * to) ≤ 64 * view.old.words) }
+        ensures loan { SameLoan view.old view.new }
+        ensures assigned { Gives view.old view.new (each * (64 * from)) (each * (64 * to)) value result };
 }
 
 pub(crate) struct Positions;
@@ -53,12 +56,14 @@ impl Unit for Positions {
         view.count_units::<Words>(from, to)
     }
 
-    fn assign_part(storage: &mut [u64], words: usize, from: usize, to: usize, value: bool) -> u32 {
-        RangeBitset::assign_in_word(storage, words, from / 64, mask_of(from, to), value)
+    // Copied to where it is called, or what is lent goes through memory.
+    #[inline(always)]
+    fn assign_part(view: &mut ViewMut<'_>, from: usize, to: usize, value: bool) -> u32 {
+        view.assign_in_word(from / 64, mask_of(from, to), value)
     }
 
-    fn assign_whole(storage: &mut [u64], words: usize, from: usize, to: usize, value: bool) -> u32 {
-        RangeBitset::assign_units::<Words>(storage, words, from, to, value)
+    fn assign_whole(view: &mut ViewMut<'_>, from: usize, to: usize, value: bool) -> u32 {
+        view.assign_units::<Words>(from, to, value)
     }
 }
 
@@ -75,11 +80,11 @@ impl Unit for Words {
 
     // Copied, so that the mask is made where one of its ends is known.
     #[inline(always)]
-    fn assign_part(storage: &mut [u64], words: usize, from: usize, to: usize, value: bool) -> u32 {
-        RangeBitset::assign_words(storage, words, from / 64, mask_of(from, to), value)
+    fn assign_part(view: &mut ViewMut<'_>, from: usize, to: usize, value: bool) -> u32 {
+        view.assign_words(from / 64, mask_of(from, to), value)
     }
 
-    fn assign_whole(storage: &mut [u64], words: usize, from: usize, to: usize, value: bool) -> u32 {
-        RangeBitset::assign_blocks(storage, words, span(from, to), value)
+    fn assign_whole(view: &mut ViewMut<'_>, from: usize, to: usize, value: bool) -> u32 {
+        view.assign_blocks(span(from, to), value)
     }
 }

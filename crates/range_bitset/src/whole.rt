@@ -5,7 +5,7 @@ ghost use Rattle.bits.specs.Bit.{bit, put};
 ghost use Rattle.range_bitset.specs.Layout.{blocks, words_of, at, population};
 ghost use Rattle.range_bitset.specs.Inner.{Room, Spans, Assigns, mixed_count, words_count, blocks_count};
 
-use crate::{RangeBitset, State, View, combined};
+use crate::{RangeBitset, State, View, ViewMut, combined};
 use bits::walk::Ones;
 
 impl RangeBitset {
@@ -48,40 +48,6 @@ impl View<'_> {
 }
 
 impl RangeBitset {
-    // The `mask` bits set or cleared at two slots: both masks of a block, or both top masks.
-    fn write_masks(storage: &mut [u64], nonzero: usize, full: usize, mask: u64, value: bool)
-        requires { (nonzero < length storage.old) × (full < length storage.old) }
-        ensures { storage.new ≡ slice_set (slice_set storage.old nonzero (put 64 (slice_index storage.old nonzero) mask value)) full (put 64 (slice_index storage.old full) mask value) }
-    {
-        let new_nonzero = combined(storage[nonzero], mask, value);
-        let new_full = combined(storage[full], mask, value);
-        storage[nonzero] = new_nonzero;
-        storage[full] = new_full;
-    }
-
-    // Set or clear whole data words `mask` (a word mask) of `block`.
-    pub(crate) fn assign_words(
-        storage: &mut [u64],
-        words: usize,
-        block: usize,
-        mask: u64,
-        value: bool,
-    ) -> u32
-        requires { Room words storage.old × (block < blocks words) × (mask < 2 ^ words_of words block) }
-        ensures { (a b : ℕ) → Spans mask a b → a ≤ b → b ≤ words_of words block → Assigns words (64 * (64 * block + a)) (64 * (64 * block + b)) value storage.old storage.new result }
-    {
-        Self::open_block(storage, words, block);
-        let view = View { storage, words };
-        let old = view.mixed_words_population(block, mask);
-        let nonzero = view.nonzero_slot(block);
-        let full = view.full_slot(block);
-        let new = Self::size_if(value, mask, 64);
-        Self::write_masks(storage, nonzero, full, mask, value);
-        let changed = Self::apply_population(storage, words, block, old, new);
-        Self::close_block(storage, words, block);
-        changed
-    }
-
     // The population of what `mask` has, `each` positions a bit, once all is set or cleared.
     fn size_if(value: bool, mask: u64, each: u32) -> u32
         requires { each ≤ 4096 }
@@ -89,18 +55,55 @@ impl RangeBitset {
     {
         if value { mask.count_ones() * each } else { 0 }
     }
+}
+
+impl ViewMut<'_> {
+    ghost use Rattle.range_bitset.specs.Lent.{SameLoan, Gives};
+
+    // The `mask` bits set or cleared at two slots: both masks of a block, or both top masks.
+    fn write_masks(&mut self, nonzero: usize, full: usize, mask: u64, value: bool)
+        requires { (nonzero < length self.old.storage.now) × (full < length self.old.storage.now) }
+        ensures loan { SameLoan self.old self.new }
+        ensures written { self.new.storage.now ≡ slice_set (slice_set self.old.storage.now nonzero (put 64 (slice_index self.old.storage.now nonzero) mask value)) full (put 64 (slice_index self.old.storage.now full) mask value) }
+    {
+        let new_nonzero = combined(self.storage[nonzero], mask, value);
+        let new_full = combined(self.storage[full], mask, value);
+        self.storage[nonzero] = new_nonzero;
+        self.storage[full] = new_full;
+    }
+
+    // Set or clear whole data words `mask` (a word mask) of `block`.
+    // Inlined: called, what is lent goes through memory.
+    #[inline(always)]
+    pub(crate) fn assign_words(&mut self, block: usize, mask: u64, value: bool) -> u32
+        requires { (block < blocks self.old.words) × (mask < 2 ^ words_of self.old.words block) }
+        ensures loan { SameLoan self.old self.new }
+        ensures assigned { (a b : ℕ) → Spans mask a b → a ≤ b → b ≤ words_of self.old.words block → Gives self.old self.new (64 * (64 * block + a)) (64 * (64 * block + b)) value result }
+    {
+        self.open_block(block);
+        let view = self.view();
+        let old = view.mixed_words_population(block, mask);
+        let nonzero = view.nonzero_slot(block);
+        let full = view.full_slot(block);
+        let new = RangeBitset::size_if(value, mask, 64);
+        self.write_masks(nonzero, full, mask, value);
+        let changed = self.apply_population(block, old, new);
+        self.close_block(block);
+        changed
+    }
 
     // Set or clear whole blocks `mask` (a block mask), each of 64 words.
-    pub(crate) fn assign_blocks(storage: &mut [u64], words: usize, mask: u64, value: bool) -> u32
-        requires { Room words storage.old × (mask < 2 ^ blocks words) }
-        ensures { (a b : ℕ) → Spans mask a b → a ≤ b → 64 * b ≤ words → Assigns words (4096 * a) (4096 * b) value storage.old storage.new result }
+    pub(crate) fn assign_blocks(&mut self, mask: u64, value: bool) -> u32
+        requires { mask < 2 ^ blocks self.old.words }
+        ensures loan { SameLoan self.old self.new }
+        ensures assigned { (a b : ℕ) → Spans mask a b → a ≤ b → 64 * b ≤ self.old.words → Gives self.old self.new (4096 * a) (4096 * b) value result }
     {
-        let view = View { storage, words };
+        let view = self.view();
         let old = view.blocks_population(mask);
         let top_nonzero = view.top_nonzero_slot();
         let top_full = view.top_full_slot();
-        let new = Self::size_if(value, mask, 4096);
-        Self::write_masks(storage, top_nonzero, top_full, mask, value);
+        let new = RangeBitset::size_if(value, mask, 4096);
+        self.write_masks(top_nonzero, top_full, mask, value);
         old.abs_diff(new)
     }
 }

@@ -5,7 +5,7 @@ use Rattle.range_bitset.proofs.Pieces.{assigns_at}
 use Rattle.range_bitset.proofs.unit.WordsUnit.assign_whole.Goals as goal
 
 pub assign_blocks-requires : goal.assign_blocks-requires
-assign_blocks-requires c = (c.requires.0, spans_lt _ _ _ _ c.span.type_inv c.span.ensures (omega (arith, c.requires)))
+assign_blocks-requires c = spans_lt _ _ _ _ c.span.type_inv c.span.ensures (omega (arith, c.requires))
 
-pub returns : goal.returns
-returns c = assigns_at _ _ _ _ _ (omega arith) (omega arith) (c.assign_blocks.ensures _ _ c.span.ensures (omega arith) (omega arith))
+pub returns-clause-assigned : goal.returns-clause-assigned
+returns-clause-assigned c = assigns_at _ _ _ _ _ (omega arith) (omega arith) (c.assign_blocks.ensures.assigned _ _ c.span.ensures (omega arith) (omega arith))
