@@ -15,7 +15,7 @@ use Rattle.range_bitset.specs.Represents.{valid, block_count}
 use Rattle.audit.specs.Sound.{plain, SoundBlock, Words}
 use Rattle.range_bitset.specs.Inner.{Room, mixed_count}
 use Rattle.range_bitset.specs.Shown.{mixed_of, block_of}
-use Rattle.audit.specs.Inner.{Tells, Audits, SoundMasks, InWords, stored_population, explicit_of, mixed_population, SoundMixed, WordsAudited}
+use Rattle.audit.specs.Inner.{Tells, Audits, SoundMasks, InWords, stored_population, explicit_of, mixed_population, SoundMixed, WordsAudited, MixedAudited}
 use Rattle.std.proofs.Common.{Option, Some, None}
 use Rattle.range_bitset.specs.declared.MixedBlock.{MixedBlock}
 use Rattle.range_bitset.specs.declared.Block.TheVariants as block
@@ -88,6 +88,9 @@ pub record Passed (st : List ℕ) (b m known left n : ℕ) : Type 0 where
   pub counted : n + stored_population st b left ≡ known + stored_population st b m
 
 module _ (st : List ℕ) (b m known : ℕ) where
+  pub walk_first : m < 2 ^ 64 → Passed st b m known m known
+  walk_first h = record { fits = h; part = λ j p. p; past = λ j p q. absurd (true≢false (sym p ∙ q)); counted = refl }
+
   module _ (left n : ℕ) (w : Passed st b m known left n) where
     -- the next word lies in the storage
     pub walk_at : InWords st b m → left ≢ 0 → 64 * b + count_trailing_zeros 64 left < length st
@@ -200,6 +203,17 @@ words_in W st b r h j p = let l : j < words_of W b = ltb-true j (words_of W b) (
 -- and so do those of any mask within them, less some
 pub stored_in : (st : List ℕ) (b n f v : ℕ) → ((j : ℕ) → bit n j ≡ true → bit v j ≡ true) → InWords st b v → InWords st b (bit_and n (ALL - f))
 stored_in st b n f v h i j p = i j (h j (and_left (bit n j) _ (sym (bit_of_and n (ALL - f) j) ∙ p)))
+
+-- the stored words are as they must be; with the full ones they have k positions
+module _ (st : List ℕ) (b : ℕ) (m : MixedBlock) (k : ℕ) (w : WordsAudited st b (explicit_of m) (ones m.full * 64) (Some k)) where
+  pub mixed_other : m.population ≢ k → MixedAudited st b m None
+  mixed_other d = unsound (λ o. d (o.counted ∙ sym (w.yes k refl).1))
+
+  pub mixed_told : {r : Bool} → Tells r (SoundMasks m.nonzero m.full m.valid) → r ≡ true → m.nonzero ≢ 0 → m.full ≢ m.valid → m.population ≡ k
+      → MixedAudited st b m (Some k)
+  mixed_told t e z a d =
+      let s = w.yes k refl in
+      sound_with (record { masks = t.yes e; some = z; not_all = a; words = s.0; counted = d ∙ s.1 }) s.1
 
 -- a mixed block as it is shown meets the rules exactly when it meets 01's
 module _ (W : ℕ) (st : List ℕ) (b : ℕ) (u : Words st) (m : state_of W st b ≡ Mixed) where

@@ -2,6 +2,8 @@
 -- the text before its first space and the text behind it. Assumes nothing.
 use Rattle.command_lines.proofs.Kit.{◌≡◌, refl, sym, ap, ◌∙◌, Bool, true, false, not, cond, ◌&&◌, Option, Some, None, List, [], ◌∷◌, ◌++◌, ℕ, ◌+◌, ◌<◌, ◌≤◌, arith, add-one, one-add, length, take, drop, eqb, eqb-true, ltb, ltb-true, position, position_or_len, prefix_len, cond_some}
 use Rattle.positions.proofs.Bools.{and_left, and_right}
+use Rattle.std.specs.Prelude.{codes}
+use Rattle.std.specs.Str.{bytes_eq}
 use Rattle.command_lines.specs.Inner.{SplitsAt}
 use Rattle.command_lines.specs.Lines.{fields, onto, digit, all_digits, value, is_number, pair, alone, with, command, meaning}
 
@@ -102,3 +104,9 @@ means_alone line e = ap command (one_field line e)
 
 pub means_with : {line w t : List ℕ} {p : Option (ℕ × ℕ)} → SplitsAt 32 line w t → p ≡ pair (fields t) → meaning line ≡ with w p
 means_with {line} {w} {t} h e = let s = some_fields t in ap command (more_fields h) ∙ rw (e, s.are)
+
+-- a text before the first space that is none of the words which numbers follow
+pub keywordless : (w : List ℕ) (p : Option (ℕ × ℕ)) → bytes_eq w (codes "new") ≡ false → bytes_eq w (codes "mark") ≡ false → bytes_eq w (codes "clear") ≡ false
+    → bytes_eq w (codes "count") ≡ false → bytes_eq w (codes "one") ≡ false → bytes_eq w (codes "zero") ≡ false → with w p ≡ None
+keywordless w None a b c d e f = refl
+keywordless w (Some (x, y)) a b c d e f = simp (a, b, c, d, e, f)

@@ -78,6 +78,7 @@ impl RangeBitset {
         Ok(())
     }
 
+    // Not `check_range` up to the next index, which the last index of all has not.
     pub(crate) fn check_point(self, len: usize, index: usize) -> Result<(), Refusal>
         ensures { refused_by result ≡ point_refusal self len index }
     {

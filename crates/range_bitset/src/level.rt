@@ -6,6 +6,9 @@
 // (`others`). A stretch of parts that `others` lacks is passed, or answered, by its length alone, and its numbers are not
 // read; nor is the number of a part that `some` lacks. `EACH` is a const parameter, so that either walk is compiled for blocks and for words
 // apart.
+//
+// The two walks are loops by hand. As one iterator from either end, over stretches or over the parts that begin one, both proved, a
+// short walk takes 5 % more instructions and up to 13 % longer; told the direction at run time, one walk takes 1.3 to 1.8 times the time.
 ghost use Rattle.std.specs.Prelude.{◌≡◌, ◌+◌, ◌-◌, ◌*◌, ◌^◌, ◌<◌, ◌≤◌, ℕ, length};
 
 use crate::{above, rest, span};

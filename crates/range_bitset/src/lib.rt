@@ -99,7 +99,8 @@ pub enum State {
     Full,
 }
 
-// A bitset over `0..capacity` positions: its head. The storage holds anything before `allocated`; specs/Layout has its order.
+// A bitset over `0..capacity` positions: its head. The storage holds anything before `allocated`, which is a flag, since 01's head and
+// C's struct have one; specs/Layout has its order.
 // The default has no word, and every call refuses it.
 #[derive(Clone, Copy, Debug, Default, PartialEq, Eq)]
 pub struct RangeBitset {

@@ -60,13 +60,25 @@ impl View<'_> {
         word * 64 + bits.trailing_zeros() as usize
     }
 
-    // Positions of the word of `from`, at or after it, equal to `value`. With `next_after` it is the Rust's `next_from`, in two
-    // parts so that a search that ends in its first word is compiled in line.
+    // Positions of the word of `from`, at or after it, equal to `value`.
     fn bits_from(self, from: usize, value: bool) -> u64
         requires { from < 64 * self.words }
         ensures { BitsFrom self.entry.words from value self.entry.storage.now result }
     {
         self.word_bits(from / 64, value) & rest(from % 64)
+    }
+
+    // The Rust's `next_from`, with the capacity in place of `None`, in two parts so that a search that ends in its first word is compiled
+    // in line. Its value is a const parameter, so that either search is compiled by itself.
+    fn next_from<const VALUE: bool>(self, from: usize) -> usize
+        requires { from < 64 * self.words }
+        ensures { NextFrom self.entry.words from VALUE self.entry.storage.now result }
+    {
+        let bits = self.bits_from(from, VALUE);
+        if bits != 0 {
+            return from / 64 * 64 + bits.trailing_zeros() as usize;
+        }
+        RangeBitset::next_after(self.storage, self.words, from, VALUE)
     }
 }
 
@@ -98,18 +110,6 @@ impl RangeBitset {
         view.first_in_word(next_word, value)
     }
 
-    // The Rust's `next_from`, with the capacity in place of `None`. Its value is a const parameter, so that either search is compiled by itself.
-    fn next_from<const VALUE: bool>(storage: &[u64], words: usize, from: usize) -> usize
-        requires { Room words storage.now × (from < 64 * words) }
-        ensures { NextFrom words from VALUE storage.now result }
-    {
-        let bits = View { storage, words }.bits_from(from, VALUE);
-        if bits != 0 {
-            return from / 64 * 64 + bits.trailing_zeros() as usize;
-        }
-        Self::next_after(storage, words, from, VALUE)
-    }
-
     // A position that was found, if it is below `end`.
     fn below(at: usize, end: usize) -> Option<usize>
         ensures { of_position result ≡ of_place (below at end) }
@@ -117,7 +117,7 @@ impl RangeBitset {
         if at < end { Some(at) } else { None }
     }
 
-    // First set position in `from..end`.
+    // First set position in `from..end`. 01 names the two searches, and they differ in what they know beforehand.
     pub fn next_one(
         self,
         storage: &[u64],
@@ -130,8 +130,9 @@ impl RangeBitset {
         if from >= end || self.len == 0 {
             return Ok(None);
         }
-        let at = Self::next_from::<true>(storage, self.words as usize, from);
-        Ok(Self::below(at, end))
+        let words = self.words as usize;
+        let view = View { storage, words };
+        Ok(Self::below(view.next_from::<true>(from), end))
     }
 
     // First clear position in `from..end`.
@@ -150,7 +151,8 @@ impl RangeBitset {
         if !self.allocated {
             return Ok(Some(from));
         }
-        let at = Self::next_from::<false>(storage, self.words as usize, from);
-        Ok(Self::below(at, end))
+        let words = self.words as usize;
+        let view = View { storage, words };
+        Ok(Self::below(view.next_from::<false>(from), end))
     }
 }

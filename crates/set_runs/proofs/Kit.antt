@@ -1,6 +1,6 @@
 -- The kit's names that the proofs of this crate use. Assumes nothing.
 pub use Prim.Native.Nat.{◌%◌, ◌*◌, ◌+◌, ◌-◌, ◌<◌, ◌^◌, ◌≤◌, ℕ}
-pub use borrow.Author.Tests.{le-leb, leb-false, leb-true}
+pub use borrow.Author.Tests.{le-leb, lt-leb, leb-false, leb-true}
 pub use lib.Dec.{leb}
 pub use lib.ListN.{get_or, length, take}
 pub use mathlib.Core.Bool.{Bool, not-not as Bool·not-not, false, not, true}

@@ -1,6 +1,6 @@
 -- Laws of the walk: a search's place, the runs by two searches each, counted, few enough, and written by those above, each run as
 -- the numbers that `code` makes of it. Assumes nothing.
-use Rattle.set_runs.proofs.Kit.{◌≡◌, refl, sym, ap, ◌∙◌, ◌⊎◌, inl, inr, Bool, true, false, not, Bool·not-not, List, [], ◌∷◌, ◌++◌, append_assoc, append-nil, ℕ, ◌+◌, ◌*◌, ◌-◌, ◌%◌, ◌≤◌, ◌<◌, arith, leb-true, leb-false, le-leb, leb, length, get_or, take, subst, ◌^◌, ap₂, dec_lt}
+use Rattle.set_runs.proofs.Kit.{◌≡◌, refl, sym, ap, ◌∙◌, ◌⊎◌, inl, inr, Bool, true, false, not, Bool·not-not, List, [], ◌∷◌, ◌++◌, append_assoc, append-nil, ℕ, ◌+◌, ◌*◌, ◌-◌, ◌%◌, ◌≤◌, ◌<◌, arith, leb-true, leb-false, le-leb, lt-leb, leb, length, get_or, take, subst, ◌^◌, ap₂, dec_lt}
 use Rattle.positions.specs.Positions.{Positions, Place, found_at, not_found, first}
 use Rattle.positions.specs.Runs.{Run, run, place_or, run_end, changed_runs, encoded}
 use Rattle.positions.proofs.Searches.{Searched, hit, miss, first_means}
@@ -8,7 +8,9 @@ use Rattle.positions.proofs.Changes.{changed_none, changed_next, changed_few}
 use Rattle.positions.proofs.Runs.{runs_empty}
 use Rattle.range_bitset.specs.Represents.{Represents}
 use Rattle.positions.specs.Replies.{of_place}
-use Rattle.std.proofs.Common.{Option, Some, None}
+use Rattle.range_bitset.specs.Answers.{Found, of_found}
+use Rattle.range_bitset.specs.Entries.{NextEnsures}
+use Rattle.std.proofs.Common.{Ok, Err, Option, Some, None}
 use Rattle.answers.specs.Refusals.{of_position}
 use Rattle.range_bitset.specs.Answers.{range_refusal}
 use Rattle.range_bitset.specs.declared.RangeBitset.{RangeBitset}
@@ -30,6 +32,19 @@ found_as not_found p e = cc
 pub found_not : (f : Place) → of_position None ≡ of_place f → f ≡ not_found
 found_not (found_at i) e = cc
 found_not not_found e = refl
+
+-- what a search of the set answers
+abbrev pub found_in : Found → Option ℕ
+found_in (Ok p) = p
+found_in (Err k) = None
+
+pub found_place : (h : RangeBitset) (st : List ℕ) (a e : ℕ) (v : Bool) (r : Found) → NextEnsures v h st a e r → Finds h st a e v (found_in r)
+found_place h st a e v r q z s t = by r (first s v a e) (q.answers z s t)
+  where
+    by : (r : Found) (f : Place) → of_found r ≡ of_place f → of_position (found_in r) ≡ of_place f
+    by (Ok p) f x = x
+    by (Err k) (found_at i) x = cc
+    by (Err k) not_found x = cc
 
 -- ---- the changed runs by two searches: p the first position to change, q the first behind it that is not
 
@@ -92,6 +107,9 @@ Counting h st a e v n from =
     range_refusal h (length st) e ≡ 0 → (s : Positions) → Represents h st s
     → n + length (changed_runs s from e v) ≡ length (changed_runs s a e v)
 
+pub counting_start : (h : RangeBitset) (st : List ℕ) (a e : ℕ) (v : Bool) → Counting h st a e v 0 a
+counting_start h st a e v z s r = omega arith
+
 pub counting_next : (h : RangeBitset) (st : List ℕ) (a e : ℕ) (v : Bool) (n from p q : ℕ)
     → FindsRun h st from e v p q → Counting h st a e v n from → Counting h st a e v (n + 1) q
 counting_next h st a e v n from p q x k z s r =
@@ -127,6 +145,13 @@ counted h st a e v most n r (q ∷ xs) x u w m l k (t, (x', (g, c), y), z) =
 pub fits_short : (h : RangeBitset) (st : List ℕ) (a e : ℕ) (v : Bool) (most : ℕ) → e - a ≤ 2 * most → RunsFit h st a e v most true
 fits_short h st a e v most l =
     record { short = λ x. refl; fits = λ z s r. sym (le-leb (length (changed_runs s a e v)) most (omega (arith, changed_few s a e v))) }
+
+pub fits_counted : (h : RangeBitset) (st : List ℕ) (a e : ℕ) (v : Bool) (most n : ℕ) → 2 * most < e - a → CountsRuns h st a e v (most + 1) n → RunsFit h st a e v most (leb n most)
+fits_counted h st a e v most n l c = record { short = λ x. absurd (omega arith); fits = λ z s r. by z s r (leb n most) refl }
+  where
+    by : range_refusal h (length st) e ≡ 0 → (s : Positions) → Represents h st s → (b : Bool) → leb n most ≡ b → b ≡ leb (length (changed_runs s a e v)) most
+    by z s r true x = sym (le-leb (length (changed_runs s a e v)) most (omega (arith, leb-true n most x, c.counted z s r)))
+    by z s r false x = sym (lt-leb (length (changed_runs s a e v)) most (omega (arith, leb-false n most x, c.counted z s r)))
 
 -- ---- writing
 

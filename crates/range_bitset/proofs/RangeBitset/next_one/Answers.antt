@@ -12,8 +12,11 @@ returns-then-from-end c =
     let ok = sym c.in_ok-check_range.ensures in
     ⊎_elim (λ w. next_empty _ _ _ _ ok _ w) (λ w. next_none _ _ _ _ ok w.1) c.then-from-end.either
 
-pub next_from-at-requires : goal.next_from-at-requires
-next_from-at-requires c = searchable _ _ _ _ (sym c.in_ok-check_range.ensures) c.if-from-end.false
+pub invariant_of-view : goal.invariant_of-view
+invariant_of-view c = record { room = (searchable _ _ _ _ (sym c.in_ok-check_range.ensures) c.if-from-end.false).0 }
+
+pub next_from-requires : goal.next_from-requires
+next_from-requires c = (searchable _ _ _ _ (sym c.in_ok-check_range.ensures) c.if-from-end.false).1
 
 pub returns : goal.returns
-returns c = next_one _ _ _ _ (sym c.in_ok-check_range.ensures) _ c.below.result c.if-self-eq0.false c.next_from-at.ensures c.below.ensures
+returns c = next_one _ _ _ _ (sym c.in_ok-check_range.ensures) _ c.below.result c.if-self-eq0.false c.next_from.ensures c.below.ensures

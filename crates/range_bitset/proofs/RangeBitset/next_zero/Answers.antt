@@ -14,8 +14,11 @@ pub returns-then-not-self : goal.returns-then-not-self
 returns-then-not-self c =
     next_fresh _ _ _ _ (sym c.in_ok-check_range.ensures) c.if-from-end.false (not-true _ c.if-not-self.true)
 
-pub next_from-at-requires : goal.next_from-at-requires
-next_from-at-requires c = searchable _ _ _ _ (sym c.in_ok-check_range.ensures) c.if-from-end.false
+pub invariant_of-view : goal.invariant_of-view
+invariant_of-view c = record { room = (searchable _ _ _ _ (sym c.in_ok-check_range.ensures) c.if-from-end.false).0 }
+
+pub next_from-requires : goal.next_from-requires
+next_from-requires c = (searchable _ _ _ _ (sym c.in_ok-check_range.ensures) c.if-from-end.false).1
 
 pub returns : goal.returns
-returns c = next_zero _ _ _ _ (sym c.in_ok-check_range.ensures) _ c.below.result (not-false _ c.if-not-self.false) c.next_from-at.ensures c.below.ensures
+returns c = next_zero _ _ _ _ (sym c.in_ok-check_range.ensures) _ c.below.result (not-false _ c.if-not-self.false) c.next_from.ensures c.below.ensures
