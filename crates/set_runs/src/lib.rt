@@ -44,7 +44,7 @@ fn low32(position: usize) -> u32
 }
 
 // First position in `from..end` equal to `value`.
-fn find(set: RangeBitset, storage: &[u64], from: usize, end: usize, value: bool) -> Option<usize>
+pub fn find(set: RangeBitset, storage: &[u64], from: usize, end: usize, value: bool) -> Option<usize>
     ensures { Finds set storage.now from end value result }
 {
     let found = if value {
