@@ -7,6 +7,7 @@ ghost use Rattle.std.specs.Prelude.{◌≡◌, true, ℕ, ◌<◌, ◌≤◌, le
 ghost use Rattle.bits.specs.Bit.{bit};
 ghost use Rattle.range_bitset.specs.Layout.{blocks};
 ghost use Rattle.range_bitset.specs.Answers.{storage_refusal};
+ghost use Rattle.audit.specs.Sound.{Words};
 ghost use Rattle.audit.specs.Entry.{AuditEnsures};
 ghost use Rattle.audit.specs.Inner.{Tells, SoundMasks, InWords, WordsAudited, MixedAudited, BlockAudited, BlocksAudited, StorageAudited};
 
@@ -64,41 +65,51 @@ fn mixed_block_audit(storage: &[u64], block: usize, mixed: MixedBlock) -> Option
     Some(population)
 }
 
-// The rules ask nothing of a block that is all clear or all set.
-fn block_audit(head: RangeBitset, storage: &[u64], block: usize) -> Option<u32>
-    requires { (storage_refusal head (length storage.now) ≡ 0) × (block < blocks head.words) }
-    ensures { BlockAudited head.words storage.now block result }
-{
-    match head.block_of(storage, 4096 * block) {
-        Ok(Block::Empty) => Some(0),
-        Ok(Block::Full(size)) => Some(size),
-        Ok(Block::Mixed(mixed)) => mixed_block_audit(storage, block, mixed),
-        Err(_) => None,
-    }
+// A head and its storage, which the tests of a call on them have taken.
+#[derive(Clone, Copy)]
+struct Accepted<'a> {
+    head: RangeBitset,
+    storage: &'a [u64],
+    ghost taken: { storage_refusal head (length storage.now) ≡ 0 },
+    // what their type says of the words
+    ghost words: { Words storage.now },
 }
 
-fn blocks_audit(head: RangeBitset, storage: &[u64]) -> Option<u32>
-    requires { storage_refusal head (length storage.now) ≡ 0 }
-    ensures { BlocksAudited head.words storage.now result }
-{
-    let mut population = 0u32;
-    for block in 0..(head.words as usize).div_ceil(64) {
-        population += block_audit(head, storage, block)?;
+impl Accepted<'_> {
+    // The rules ask nothing of a block that is all clear or all set.
+    fn block_audit(self, block: usize) -> Option<u32>
+        requires { block < blocks self.head.words }
+        ensures { BlockAudited self.entry.head.words self.entry.storage.now block result }
+    {
+        match self.head.block_of(self.storage, 4096 * block) {
+            Ok(Block::Empty) => Some(0),
+            Ok(Block::Full(size)) => Some(size),
+            Ok(Block::Mixed(mixed)) => mixed_block_audit(self.storage, block, mixed),
+            Err(_) => None,
+        }
     }
-    Some(population)
-}
 
-fn storage_audit(head: RangeBitset, storage: &[u64]) -> Option<u32>
-    requires { storage_refusal head (length storage.now) ≡ 0 }
-    ensures { StorageAudited head.words storage.now result }
-{
-    let Ok(tops) = head.top_masks(storage) else {
-        return None;
-    };
-    if !masks_sound(tops.nonzero, tops.full, tops.valid) {
-        return None;
+    fn blocks_audit(self) -> Option<u32>
+        ensures { BlocksAudited self.entry.head.words self.entry.storage.now result }
+    {
+        let mut population = 0u32;
+        for block in 0..(self.head.words as usize).div_ceil(64) {
+            population += self.block_audit(block)?;
+        }
+        Some(population)
     }
-    blocks_audit(head, storage)
+
+    fn storage_audit(self) -> Option<u32>
+        ensures { StorageAudited self.entry.head.words self.entry.storage.now result }
+    {
+        let Ok(tops) = self.head.top_masks(self.storage) else {
+            return None;
+        };
+        if !masks_sound(tops.nonzero, tops.full, tops.valid) {
+            return None;
+        }
+        self.blocks_audit()
+    }
 }
 
 // Whether storage and head are sound.
@@ -109,5 +120,6 @@ pub fn audit(head: RangeBitset, storage: &[u64]) -> Result<bool, Refusal>
     if !head.allocated {
         return Ok(head.len == 0);
     }
-    Ok(storage_audit(head, storage) == Some(head.len))
+    let population = Accepted { head, storage }.storage_audit();
+    Ok(population == Some(head.len))
 }
