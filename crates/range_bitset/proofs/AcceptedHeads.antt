@@ -170,7 +170,3 @@ range_accepts h n e z l = rw (z, le-leb e (capacity_of h) l)
 pub point_accepts : (h : RangeBitset) (n i : ℕ) → storage_refusal h n ≡ 0 → i < capacity_of h → point_refusal h n i ≡ 0
 unfolding point_refusal
 point_accepts h n i z l = rw (z, lt-ltb i (capacity_of h) l)
-
--- a call keeps a slice's length
-pub room_same : (W : ℕ) (st st' : List ℕ) → Room W st → length st' ≡ length st → Room W st'
-room_same W st st' r e = record { some = r.some; most = r.most; long = omega (arith, r.long, e) }

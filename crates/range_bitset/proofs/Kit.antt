@@ -14,6 +14,6 @@ pub use mathlib.Core.List.{List, [], ◌∷◌}
 pub use mathlib.Core.Logic.{◌≢◌, ⊎_elim}
 pub use mathlib.Core.Path.{◌∙◌, ◌≡◌, ap, ap₂, refl, subst, sym}
 pub use native.Mathlib.Decide.{dec_lt, le_ind}
-pub use native.Mathlib.Nat.{add-mul, add-suc, add-zero, le_of_eq, le_refl, le_trans, lt_of_le_of_lt, lt_of_lt_of_le, lt_of_mul-lt-mul_left, mul-add, mul_comm, mul-le-mul, mul-le-mul_left, mul-le-mul_right, mul-suc, mul-zero, one-mul, zero-add, zero-mul}
+pub use native.Mathlib.Nat.{add-mul, add-suc, add-zero, le_of_eq, le_refl, le_trans, lt_of_le_of_lt, lt_of_lt_of_le, lt_of_mul-lt-mul_left, mul-add, mul_comm, mul-le-mul_left, mul-le-mul_right, mul-suc, mul-zero, one-mul, zero-mul}
 pub use native.Mathlib.Numerals.{add-one}
 pub use native.Mathlib.Omega.{arith}

@@ -1,11 +1,7 @@
 -- `range_bitset::RangeBitset::next_one` meets its contract. Assumes nothing.
-use Rattle.range_bitset.proofs.QueryReturns.{declined, next_empty, next_none, next_one, searchable}
+use Rattle.range_bitset.proofs.QueryReturns.{next_empty, next_none, next_one, searchable}
 use Rattle.range_bitset.proofs.Kit.{⊎_elim, sym}
-use Rattle.answers.proofs.Numbers.{passed_on}
 use Rattle.range_bitset.proofs.RangeBitset.next_one.Goals as goal
-
-pub returns-in_err-check_range : goal.returns-in_err-check_range
-returns-in_err-check_range c = rw (passed_on _ c.from_residual.ensures.1) (declined _ _ _ _ c.in_err-check_range.ensures)
 
 pub returns-then-from-end : goal.returns-then-from-end
 returns-then-from-end c =

@@ -1,11 +1,7 @@
 -- `range_bitset::RangeBitset::next_zero` meets its contract. Assumes nothing.
-use Rattle.range_bitset.proofs.QueryReturns.{declined, next_empty, next_fresh, next_zero, searchable}
+use Rattle.range_bitset.proofs.QueryReturns.{next_empty, next_fresh, next_zero, searchable}
 use Rattle.range_bitset.proofs.Kit.{not-true, not-false, sym}
-use Rattle.answers.proofs.Numbers.{passed_on}
 use Rattle.range_bitset.proofs.RangeBitset.next_zero.Goals as goal
-
-pub returns-in_err-check_range : goal.returns-in_err-check_range
-returns-in_err-check_range c = rw (passed_on _ c.from_residual.ensures.1) (declined _ _ _ _ c.in_err-check_range.ensures)
 
 pub returns-then-from-end : goal.returns-then-from-end
 returns-then-from-end c = next_empty _ _ _ _ (sym c.in_ok-check_range.ensures) _ c.if-from-end.true
