@@ -8,22 +8,15 @@ use Rattle.positions.proofs.Searches.{first_none, first_at, first_below}
 use Rattle.bits.specs.Bit.{bit}
 use Rattle.range_bitset.specs.Read.{word_read}
 use Rattle.range_bitset.specs.Represents.{closed, Represents, Stored, capacity_of}
-use Rattle.positions.specs.Replies.{Reply, number, refusal, of_place, Accepted}
+use Rattle.positions.specs.Replies.{Reply, number, of_place, Accepted}
 use Rattle.range_bitset.specs.Answers.{point_refusal, range_refusal}
 use Rattle.range_bitset.specs.Entries.{Answers, GetEnsures, CountEnsures, NextEnsures}
 use Rattle.range_bitset.specs.Inner.{Room, Counts, NextFrom}
 use Rattle.range_bitset.specs.declared.RangeBitset.{RangeBitset}
 use Rattle.std.proofs.Common.{Option, Some, None, Ok}
-use Rattle.answers.specs.Refusals.{number_of, of_position}
-use Rattle.answers.specs.declared.Refusal.{Refusal}
-use Rattle.answers.proofs.Numbers.{number_some}
+use Rattle.answers.specs.Refusals.{of_position}
 use Rattle.range_bitset.proofs.AcceptedHeads.{point_accepted, range_accepted}
 use Rattle.range_bitset.proofs.SetWords.{word_is, in_word}
-
--- a refusal
-pub declined : {f : Positions → Reply} (k : ℕ) (n : Refusal) (h : RangeBitset) (st : List ℕ) → number_of n ≡ k → Answers k h st f (refusal (number_of n))
-declined k n h st e =
-    record { refuses = e; accepts = λ w. absurd (number_some n (e ∙ w)); answers = λ w. absurd (number_some n (e ∙ w)) }
 
 -- an accepted query: a number, or nothing
 pub answered : {f : Positions → Reply} (k : ℕ) (h : RangeBitset) (st : List ℕ) (r : Reply) → k ≡ 0 → Accepted r

@@ -1,5 +1,5 @@
 // The n-th set bit of one word, without a loop. Not the Rust's: the n-th position of a set is found with it. Assumes nothing.
-ghost use Rattle.std.specs.Prelude.{◌≡◌, ◌^◌, ◌<◌, ◌≤◌, count_ones};
+ghost use Rattle.std.specs.Prelude.{◌^◌, ◌<◌, count_ones};
 ghost use Rattle.positions.specs.Walks.{Nth};
 ghost use Rattle.bits.specs.Bit.{bit};
 ghost use Rattle.range_bitset.specs.Inner.{Pairs, Narrows};

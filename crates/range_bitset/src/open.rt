@@ -2,7 +2,7 @@
 ghost use Rattle.std.specs.Prelude.{◌≡◌, ℕ, ◌+◌, ◌*◌, ◌<◌, ◌≤◌};
 ghost use Rattle.std.specs.Int.{abs_diff};
 ghost use Rattle.range_bitset.specs.Layout.{blocks, population};
-ghost use Rattle.range_bitset.specs.Inner.{Room, Spans, open_with, write_word, count_moved, Opens, Closes, Assigns};
+ghost use Rattle.range_bitset.specs.Inner.{Spans, open_with, write_word, count_moved, Opens, Closes};
 
 use crate::{ALL, RangeBitset, State, View, ViewMut, combined, moved, single};
 

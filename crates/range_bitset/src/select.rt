@@ -1,5 +1,5 @@
 // The n-th position of a set. Not the Rust's. Assumes nothing.
-ghost use Rattle.std.specs.Prelude.{◌≡◌, ◌*◌, ◌<◌, true};
+ghost use Rattle.std.specs.Prelude.{◌*◌, ◌<◌, true};
 ghost use Rattle.range_bitset.specs.Layout.{blocks};
 ghost use Rattle.range_bitset.specs.Entries.{SelectEnsures};
 ghost use Rattle.range_bitset.specs.Inner.{Room};

@@ -1,6 +1,6 @@
 // What a range is cut into, parts of 64 units: positions, of which a data word has 64, or data words, of which a block has 64. One
 // function counts a range of either (`count_units`), one sets or clears it (`assign_units`). Assumes nothing.
-ghost use Rattle.std.specs.Prelude.{◌≡◌, ℕ, ◌+◌, ◌-◌, ◌*◌, ◌/◌, ◌%◌, ◌<◌, ◌≤◌};
+ghost use Rattle.std.specs.Prelude.{ℕ, ◌+◌, ◌-◌, ◌*◌, ◌/◌, ◌%◌, ◌<◌, ◌≤◌};
 ghost use Rattle.range_bitset.specs.Inner.{Spans, Counts};
 ghost use Rattle.range_bitset.specs.Lent.{SameLoan, Gives};
 

@@ -3,7 +3,7 @@ ghost use Rattle.std.specs.Prelude.{◌≡◌, ℕ, ◌+◌, ◌*◌, ◌%◌, �
 ghost use Rattle.positions.specs.Positions.{sum_over};
 ghost use Rattle.bits.specs.Bit.{bit, put};
 ghost use Rattle.range_bitset.specs.Layout.{blocks, words_of, at, population};
-ghost use Rattle.range_bitset.specs.Inner.{Room, Spans, Assigns, mixed_count, words_count, blocks_count};
+ghost use Rattle.range_bitset.specs.Inner.{Spans, mixed_count, words_count, blocks_count};
 
 use crate::{RangeBitset, State, View, ViewMut, combined};
 use bits::walk::Ones;
