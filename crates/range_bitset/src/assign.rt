@@ -49,7 +49,7 @@ impl RangeBitset {
         })
     }
 
-    // Set or clear one position; answers whether it changed.
+    // Set or clear one position; answers whether it changed. Beside `assign`, as in the Rust: test, change and answer differ.
     pub fn set(
         self,
         storage: &mut [u64],
@@ -85,6 +85,7 @@ impl ViewMut<'_> {
     ghost use Rattle.range_bitset.specs.Lent.{SameLoan, Gives};
 
     // The rest of the Rust's `assign`, from `first_word` on, where a unit is a position; its `assign_whole_words` where it is a word.
+    // Cut as in `count_units`; one function of both would need a trait for what is done to a part, with laws for doing one after another.
     pub(crate) fn assign_units<U: Unit>(&mut self, from: usize, to: usize, value: bool) -> u32
         requires { (from < to) × (U.each * to ≤ 64 * self.old.words) }
         ensures loan { SameLoan self.old self.new }

@@ -110,6 +110,7 @@ pub struct RangeBitset {
 }
 
 // The storage lent for a set of `words` data words: it has room for them and for all that is kept beside them.
+// Its methods ask that a block or word is one that there is, as a slice asks it of an index: that is a fact of two values, said where they meet.
 #[derive(Clone, Copy)]
 pub(crate) struct View<'a> {
     storage: &'a [u64],
