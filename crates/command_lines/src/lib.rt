@@ -29,7 +29,7 @@ pub enum Command {
     Wipe,
 }
 
-// What is printed. A refusal is the number that stands in its line: a `Refusal` here would be turned into that number at the same place.
+// What is printed. A refusal is the number that stands in its line, so that any can be printed: `Refusal` has no 8, which comes with an index.
 #[derive(Clone, Copy, Debug, PartialEq, Eq)]
 pub enum Answer {
     Number(u32),
@@ -89,7 +89,7 @@ fn split_once(text: &[u8], byte: u8) -> Option<(&[u8], &[u8])>
     Some((&text[..at], &text[at + 1..]))
 }
 
-// The number that a field is.
+// The number that a field is. By hand, since `parse` takes a sign and digits without end.
 fn number(field: &[u8]) -> Option<u32>
     ensures { result ≡ cond (is_number field.now) (Some (value field.now)) None }
 {

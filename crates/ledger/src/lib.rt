@@ -166,8 +166,8 @@ impl Ledger {
             answer: back.answer,
             head: Ledger {
                 set: back.head,
-                journal: self.journal,
                 used,
+                ..self
             },
         })
     }
@@ -182,8 +182,8 @@ impl Ledger {
             answer: done.answer,
             head: Ledger {
                 set: done.head,
-                journal: self.journal,
                 used: 0,
+                ..self
             },
         })
     }
@@ -253,8 +253,8 @@ impl Ledger {
             answer: done.answer,
             head: Ledger {
                 set: done.head,
-                journal: self.journal,
                 used,
+                ..self
             },
         })
     }

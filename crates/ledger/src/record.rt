@@ -22,7 +22,8 @@ impl Ledger {
         last + 1
     }
 
-    // Write the runs that a call changes, at most `most`, from `used` on. Answers how many they are.
+    // Write the runs that a call changes, at most `most`, from `used` on. Answers how many they are. Of a saved list's writer it differs in
+    // what is written of a run, two numbers for eight bytes.
     fn write_runs(journal: &mut [u32], used: u32, runs: Runs, most: u32) -> u32
         requires { (used + 2 * most ≤ length journal.old) × (used + 2 * most ≤ 16384) }
         ensures { WritesRuns pair runs.entry.set runs.entry.storage.now runs.entry.from runs.entry.end runs.entry.value most result used (used + 2 * result) journal.old journal.new }

@@ -33,6 +33,7 @@ impl View<'_> {
     }
 
     // The rest of the Rust's `count`, from `first_word` on, where a unit is a position; its `whole_words_population` where it is a word.
+    // Cut as in `assign_units`, which says why it is apart.
     pub(crate) fn count_units<U: Unit>(self, from: usize, to: usize) -> u32
         requires { (from < to) × (U.each * to ≤ 64 * self.words) }
         ensures { Counts self.entry.words (U.each * from) (U.each * to) self.entry.storage.now result }

@@ -7,7 +7,7 @@ ghost use Rattle.range_bitset.specs.Inner.{Begins};
 use crate::{ALL, RangeBitset, View, ViewMut};
 
 impl RangeBitset {
-    // Not by `div_ceil`, which is three instructions longer, at every slot.
+    // Not by `div_ceil`, which is three instructions longer, at every slot, and no entry may get slower.
     pub(crate) fn blocks(words: usize) -> usize
         requires { words ≤ 4096 }
         ensures { result ≡ blocks words }
@@ -40,6 +40,7 @@ impl View<'_> {
         if n >= 64 { ALL } else { (1u64 << n) - 1 }
     }
 
+    // The next three under the Rust's names, each one number for each block further on.
     pub(crate) fn nonzero_slot(self, block: usize) -> usize
         requires { block < 64 }
         ensures { result ≡ address self.entry.words (nonzero block) }

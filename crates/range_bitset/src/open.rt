@@ -4,7 +4,7 @@ ghost use Rattle.std.specs.Int.{abs_diff};
 ghost use Rattle.range_bitset.specs.Layout.{blocks, population};
 ghost use Rattle.range_bitset.specs.Inner.{Spans, open_with, write_word, count_moved, Opens, Closes};
 
-use crate::{ALL, RangeBitset, State, View, ViewMut, combined, moved, single};
+use crate::{ALL, State, ViewMut, combined, moved, single};
 
 impl ViewMut<'_> {
     ghost use Rattle.range_bitset.specs.Lent.{SameLoan, Turns, Writes, Gives};

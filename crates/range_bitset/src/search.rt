@@ -114,7 +114,7 @@ impl RangeBitset {
     fn below(at: usize, end: usize) -> Option<usize>
         ensures { of_position result ≡ of_place (below at end) }
     {
-        if at < end { Some(at) } else { None }
+        (at < end).then_some(at)
     }
 
     // First set position in `from..end`. 01 names the two searches, and they differ in what they know beforehand.

@@ -21,7 +21,7 @@ pub const HEADER_SIZE: usize = 11;
 
 pub const RUN_SIZE: usize = 8;
 
-// The 16-bit number at a place.
+// The 16-bit number at a place. Two functions for two sizes, since `from_be_bytes` is of each integer and of no trait.
 fn be16(file: &[u8], at: usize) -> u16
     requires { at + 2 ≤ length file.now }
     ensures { result ≡ big16 file.now at }

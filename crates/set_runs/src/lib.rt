@@ -29,8 +29,8 @@ impl Iterator for Runs<'_> {
     ghost next_gives = { GivesRun };
 
     fn next(&mut self) -> Option<Range<u32>> {
-        let start = find(self.set, self.storage, self.from, self.end, !self.value)?;
-        let end = find(self.set, self.storage, start, self.end, self.value).unwrap_or(self.end);
+        let start = self.first_of(self.from, !self.value)?;
+        let end = self.first_of(start, self.value).unwrap_or(self.end);
         self.from = end;
         Some(low32(start)..low32(end))
     }
@@ -43,19 +43,19 @@ fn low32(position: usize) -> u32
     (position % 0x1_0000_0000) as u32
 }
 
-// First position in `from..end` equal to `value`.
-pub fn find(set: RangeBitset, storage: &[u64], from: usize, end: usize, value: bool) -> Option<usize>
-    ensures { Finds set storage.now from end value result }
-{
-    let found = if value {
-        set.next_one(storage, from, end)
-    } else {
-        set.next_zero(storage, from, end)
-    };
-    found.unwrap_or(None)
-}
-
 impl Runs<'_> {
+    // First position in `from..end` equal to `value`.
+    pub fn first_of(&self, from: usize, value: bool) -> Option<usize>
+        ensures { Finds self.now.set self.now.storage.now from self.now.end value result }
+    {
+        let found = if value {
+            self.set.next_one(self.storage, from, self.end)
+        } else {
+            self.set.next_zero(self.storage, from, self.end)
+        };
+        found.unwrap_or(None)
+    }
+
     // Whether there are at most `most` of them. Two runs have a position between them, so a short range need not be searched.
     pub fn fit(self, most: usize) -> bool
         ensures { RunsFit self.entry.set self.entry.storage.now self.entry.from self.entry.end self.entry.value most result }

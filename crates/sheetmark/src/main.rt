@@ -26,19 +26,13 @@ pub struct Performed {
     pub ledger: Option<Ledger>,
 }
 
-// What a call of a ledger leaves: a refused one leaves the ledger as it was. No `From`, since it takes the head too.
+// What a call of a ledger leaves: a refused one leaves the ledger as it was.
 fn of_call(head: Ledger, done: Result<Changed<u32, Ledger>, Refusal>) -> Performed
     ensures { (result.answer ≡ answer_of (of_called done)) × (result.ledger ≡ Some (head_after head done)) }
 {
-    match done {
-        Ok(changed) => Performed {
-            answer: Answer::Number(changed.answer),
-            ledger: Some(changed.head),
-        },
-        Err(refusal) => Performed {
-            answer: Answer::Refused(refusal.into()),
-            ledger: Some(head),
-        },
+    Performed {
+        answer: done.map(|changed| changed.answer).into(),
+        ledger: Some(done.map_or(head, |changed| changed.head)),
     }
 }
 
@@ -52,15 +46,10 @@ fn new_ledger(
 ) -> Performed
     ensures { Leaves (Some (New capacity limit)) ledger storage.now journal.now result storage.now journal.now }
 {
-    match Ledger::new(capacity as usize, limit as usize, storage, journal) {
-        Ok(fresh) => Performed {
-            answer: Answer::Number(0),
-            ledger: Some(fresh),
-        },
-        Err(refusal) => Performed {
-            answer: Answer::Refused(refusal.into()),
-            ledger,
-        },
+    let made = Ledger::new(capacity as usize, limit as usize, storage, journal);
+    Performed {
+        answer: made.map(|_| 0).into(),
+        ledger: made.ok().or(ledger),
     }
 }
 
@@ -153,6 +142,9 @@ fn answer_line(
     done.ledger
 }
 
+// Line, output, storage and journal are lent one by one, here and below: of a struct with a `&mut` to each, every function would have
+// to promise that it still holds the four.
+//
 // Answers the lines that end in a part of the input. The output has room for all answers: a line has a byte at least, its
 // newline, and an answer at most 12.
 fn answer_part(
@@ -239,16 +231,13 @@ fn serve(
 {
     let mut ledger = None;
     let mut line = Line::new();
-    // counted, since nothing else falls in a loop over any reader
-    let mut reads = 0u64;
-    while reads < u64::MAX {
+    for _ in 0..u64::MAX {
         let n = read_part(input, buffer);
         ledger = answer_read(ledger, &buffer[..n], &mut line, out, storage, journal);
         let _ = output.write_all(out.as_slice());
         if n == 0 {
             return ledger;
         }
-        reads += 1;
     }
     ledger
 }
