@@ -13,6 +13,7 @@ impl RangeBitset {
         ensures { result ≡ new_of capacity }
     {
         let words = capacity / 64;
+        // where the Rust asks `is_multiple_of`, which says the same in as many words
         if capacity % 64 != 0 || !Self::allowed(words) {
             return Err(Refusal::Size);
         }

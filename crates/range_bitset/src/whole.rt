@@ -117,6 +117,7 @@ impl View<'_> {
         let mut population = known;
         for block in Ones(mixed) {
             let kept = self.storage[self.population_slot(block)];
+            // cut to 32 bits first, since an `as` has to keep the number
             population = population.wrapping_add((kept % 0x1_0000_0000) as u32);
         }
         population

@@ -26,6 +26,7 @@ fn open_and_write(
     Ok(length)
 }
 
+// A refusal is printed by its number alone, and a bad run too, whose index no `Display` would leave out.
 fn main(rt: HostRuntime) -> io::Result<()> {
     let mut file = Vec::new(rt.alloc());
     rt.stdin().take(4096).read_to_end(&mut file)?;

@@ -22,7 +22,7 @@ fn print_checked(rt: &impl Print, file: &[u8], header: Header) -> io::Result<()>
     Ok(())
 }
 
-// What opening the file gives, but for refusals 1 and 3.
+// What opening the file gives, but for refusals 1 and 3: by number, with the place of it, which a `Display` of a refusal does not know.
 fn print_file(rt: &impl Print, file: &[u8]) -> io::Result<()> {
     match saved_list::read_header(file) {
         Err(refusal) => print!(rt; "refused {}, header", u8::from(refusal)),

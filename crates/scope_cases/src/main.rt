@@ -10,7 +10,7 @@ use std::fmt::Display;
 use std::io;
 use std::ops::Range;
 
-// Says a call and its answer, or why it is refused.
+// Says a call and its answer, or the number of its refusal, which a `Display` would put into words of one program.
 fn say<T: Display + Drop>(
     rt: &impl Print,
     call: impl Display + Drop,
