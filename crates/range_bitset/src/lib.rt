@@ -110,6 +110,7 @@ pub struct RangeBitset {
 }
 
 // The storage lent for a set of `words` data words: it has room for them and for all that is kept beside them.
+// An entry makes it of its own once the test before has shown that there is room; a function for that would ask for the room again.
 // Its methods ask that a block or word is one that there is, as a slice asks it of an index: that is a fact of two values, said where they meet.
 #[derive(Clone, Copy)]
 pub(crate) struct View<'a> {
@@ -137,7 +138,7 @@ pub struct Tops {
     pub valid: u64,
 }
 
-// The same of the words of a `Mixed` block, and its kept population.
+// The same of the words of a `Mixed` block, and its kept population. Not a `Tops` with a number, since their fields are public.
 #[derive(Clone, Copy, Debug, PartialEq, Eq)]
 pub struct MixedBlock {
     pub nonzero: u64,
