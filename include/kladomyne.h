@@ -13,7 +13,8 @@
  *
  * A ledger is a head, storage as a set's, and a journal, which the caller owns and lends too: J numbers of 32 bits, J at most
  * 16,384, of which the first U are in use. A marking or clearing records in the journal the runs that it changes, and take-back
- * gives just those runs their old value again, the last standing call first. The set in a ledger's head can be asked
+ * gives just those runs their old value again, the last standing call first. A marking or clearing that changes no position leaves
+ * the ledger as it is: it does not stand, and needs no journal number. The set in a ledger's head can be asked
  * through the set's calls, with the ledger's storage; a ledger's set is changed by the ledger's calls alone.
  *
  * Heads, storage and journals hold numbers and no addresses: together they may be copied, moved or stored. A saved list is the
@@ -32,8 +33,8 @@
  * nor, for a ledger, the journal's first U numbers. On any other memory an accepted call's answer, its head and the numbers
  * that it may write may be anything, but that a ledger's W and J stay, its U is at most J, and a list's length is at most the
  * buffer's; and all that is said of refusals and of the other numbers still holds. (But for 6 and 9, where head and storage
- * are not sound: there is no set to count runs by. 6 is answered where U is J; never where as many runs fit as the range's n
- * positions can have, (n + 1) / 2; between these it may be. 9 is answered where the buffer is under 11 bytes; never where it
+ * are not sound: there is no set to count runs by. 6 is never answered where as many runs fit as the range's n positions can
+ * have, (n + 1) / 2, nor for a range of none; else it may be. 9 is answered where the buffer is under 11 bytes; never where it
  * has KLADO_LIST_MOST; between these it may be.) What klado_set_audit, klado_ledger_new and klado_ledger_open promise is
  * promised on any memory.
  *
@@ -44,7 +45,8 @@
  *   3  the storage is shorter than the set needs (KLADO_SET_STORAGE), or the journal is shorter than J.
  *   4  an end above the capacity, or an index at or above it.
  *   5  take-back alone: no call stands, U is 0.
- *   6  marking and clearing alone: the call needs more journal numbers than are free, 1 + 2 * (runs that it changes) of J - U.
+ *   6  marking and clearing alone: the call needs more journal numbers than are free, of J - U: 1 + 2 * (runs that it changes), or
+ *      none where it changes no position.
  *   7  open alone: the file is under 11 bytes, its mark or version is wrong, or its length is not 11 + 8 * (its run count).
  *   8  open alone: a run of the file is empty, ends above the capacity, or does not start above the end of the run before it.
  *      `run` is the index of the first such run, counted from 0.
@@ -193,9 +195,10 @@ klado_opened klado_ledger_new(size_t capacity, size_t limit, const uint64_t *sto
 klado_opened klado_ledger_open(const uint8_t *file, size_t file_len, size_t limit, uint64_t *storage,
                                size_t storage_len, const uint32_t *journal, size_t journal_len);
 
-/* Puts every position of start..end into the set, and answers how many positions that changed. The call stands until it is
- * taken back, also where it changes nothing, and uses 1 + 2 * (runs that it changes) journal numbers. The work
- * grows with those runs; beside them it is klado_set_assign's. Refused: 2, 3, 4, 6. */
+/* Puts every position of start..end into the set, and answers how many positions that changed. Where it is not 0 the call stands
+ * until it is taken back, and uses 1 + 2 * (runs that it changes) journal numbers. Where it is 0 the call does not stand, uses no
+ * journal number, and is accepted even with a full journal, J = 0 among them; it then costs what finding that out does, one search
+ * or two of the range. Else the work grows with the runs; beside them it is klado_set_assign's. Refused: 2, 3, 4, 6. */
 klado_ledger_answer klado_ledger_mark(klado_ledger head, uint64_t *storage, size_t storage_len, uint32_t *journal,
                                       size_t journal_len, size_t start, size_t end);
 
@@ -212,7 +215,7 @@ klado_ledger_answer klado_ledger_clear_point(klado_ledger head, uint64_t *storag
                                              uint32_t *journal, size_t journal_len, size_t index);
 
 /* Takes the last standing call back: the positions that it changed, and no others, have their old value again. Answers how
- * many they are. The call stands no longer and its journal numbers are free; they are not written. Refused: 2, 3, 5. */
+ * many they are, 1 at least. The call stands no longer and its journal numbers are free; they are not written. Refused: 2, 3, 5. */
 klado_ledger_answer klado_ledger_take_back(klado_ledger head, uint64_t *storage, size_t storage_len,
                                            const uint32_t *journal, size_t journal_len);
 

@@ -1,12 +1,13 @@
 /* A C caller of include/kladomyne.h: a day at the archive. A ledger is opened on a saved list, sheets are marked, cleared and
- * taken back, and each refusal of the table is met once. It prints every answer with the head and the audit after it, so that
- * oracle/data/ledger_day.expected holds all of them; what the expected answers are follows from the header alone. */
+ * taken back, two calls change nothing while the journal is full, and each refusal of the table is met once. It prints every answer
+ * with the head and the audit after it, so that oracle/data/ledger_day.expected holds all of them; what the expected answers are
+ * follows from the header alone. */
 #include "kladomyne.h"
 
 #include <stdio.h>
 #include <string.h>
 
-enum { CAPACITY = 4096, LIMIT = 12 };
+enum { CAPACITY = 4096, LIMIT = 11 };
 
 static uint64_t sheets[KLADO_SET_STORAGE(CAPACITY)];
 static uint32_t undo[LIMIT];
@@ -55,6 +56,7 @@ int main(void) {
     head = called("clear point 250", klado_ledger_clear_point(head, sheets, room, undo, LIMIT, 250));
     head = called("mark 0..400, J full", klado_ledger_mark(head, sheets, room, undo, LIMIT, 0, 400));
     head = called("mark point 200, marked", klado_ledger_mark_point(head, sheets, room, undo, LIMIT, 200));
+    head = called("clear 5..5, J full", klado_ledger_clear(head, sheets, room, undo, LIMIT, 5, 5));
     head = called("mark 0..1, J full", klado_ledger_mark(head, sheets, room, undo, LIMIT, 0, 1));
     head = called("mark 0..4097", klado_ledger_mark(head, sheets, room, undo, LIMIT, 0, 4097));
     head = called("mark point 4096", klado_ledger_mark_point(head, sheets, room, undo, LIMIT, 4096));

@@ -68,13 +68,14 @@ class Ledger:
     def assign(self, start, end, value):
         bits, length = self.part(start, end)
         changed = bits ^ ones(length) if value else bits
+        if changed == 0:  # it does not stand and needs no number
+            return 0
         needed = 1 + 2 * run_count(changed)
         if needed > self.free:
             raise Refused(6)
         self.free -= needed
         self.calls.append((runs_of(changed, start), changed.bit_count(), needed))
-        if changed:
-            self.set ^= changed << start
+        self.set ^= changed << start
         return self.calls[-1][1]
 
     def back(self):

@@ -81,6 +81,9 @@ impl Machine {
             return Err(4);
         }
         let runs = self.runs(start, end, value);
+        if runs.is_empty() {
+            return Ok(0); // it changes nothing: it does not stand, and uses no number
+        }
         let needed = 1 + 2 * runs.len();
         if needed > self.free() {
             return Err(6);
@@ -143,15 +146,20 @@ impl Machine {
 
     /// The greatest end up to which a call from `start` still finds room in the journal.
     pub fn last_end(&self, start: usize, value: bool) -> usize {
-        let (free, mut needed) = (self.free(), 1);
+        let (free, mut runs) = (self.free(), 0);
         for at in start..self.capacity() {
             let begins = self.has[at] != value && (at == start || self.has[at - 1] == value);
-            needed += 2 * begins as usize;
-            if needed > free {
+            runs += begins as usize;
+            if runs > 0 && 1 + 2 * runs > free {
                 return at;
             }
         }
         self.capacity()
+    }
+
+    /// The greatest end up to which a call from `start` changes nothing.
+    pub fn idle_end(&self, start: usize, value: bool) -> usize {
+        (start..self.capacity()).find(|at| self.has[*at] != value).unwrap_or(self.capacity())
     }
 }
 

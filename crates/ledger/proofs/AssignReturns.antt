@@ -1,7 +1,9 @@
 -- Laws for marking and clearing as calls: one for each return of `assign`, with the machine's step there. Assumes nothing.
-use Rattle.ledger.proofs.Kit.{◌≡◌, refl, sym, ap, ◌∙◌, inl, Bool, true, false, true≢false, cond, List, ℕ, ◌+◌, ◌*◌, ◌-◌, ◌/◌, ◌≤◌, ◌<◌, arith, le-leb, lt-leb, leb-true, leb-false, eq-eqb, ne_eqb, length, take}
+use Rattle.ledger.proofs.Kit.{◌≡◌, refl, sym, ap, ◌∙◌, inl, Bool, true, false, true≢false, cond, List, ℕ, ◌+◌, ◌*◌, ◌-◌, ◌/◌, ◌≤◌, ◌<◌, arith, le-leb, lt-leb, leb-true, leb-false, ltb-true, ltb, ne_eqb, length, take, subst, ap₂, ◌&&◌, ◌||◌}
 use Rattle.positions.proofs.Replies.{accepted_refused}
-use Rattle.positions.specs.Positions.{Positions, assigned}
+use Rattle.positions.specs.Positions.{Positions, assigned, changed_count, differ, lacking}
+use Rattle.positions.proofs.Assigned.{assigned_none}
+use Rattle.positions.proofs.Counts.{count_all}
 use Rattle.positions.specs.Runs.{changed_runs}
 use Rattle.range_bitset.proofs.Slots.{past_same}
 use Rattle.range_bitset.specs.Represents.{Represents, capacity_of}
@@ -15,14 +17,15 @@ use Rattle.range_bitset.specs.Answers.{range_refusal}
 use Rattle.range_bitset.specs.Entries.{AssignEnsures}
 use Rattle.range_bitset.specs.declared.RangeBitset.{RangeBitset}
 use Rattle.range_bitset.proofs.AcceptedHeads.{range_accepts}
-use Rattle.ledger.specs.Machine.{Machine, range, set_of, used, need_of, step, next_of}
+use Rattle.range_bitset.proofs.ChangeReturns.{same_set}
+use Rattle.ledger.specs.Machine.{Machine, range, set_of, used, numbers_for, need_of, step, next_of}
 use Rattle.ledger.specs.Journal.{journal_of}
 use Rattle.ledger.specs.Memory.{Memory, memory, lent_refusal, call_refusal, Holds}
 use Rattle.ledger.specs.Entries.{CallEnsures, flag_after, most_need}
 use Rattle.set_runs.specs.Walks.{RunsFit}
 use Rattle.ledger.specs.Inner.{WritesCall}
 use Rattle.ledger.specs.declared.Ledger.{Ledger}
-use Rattle.ledger.proofs.Machines.{went, step_outside, step_full, step_range, reachable_step, set_after_range, needs_added, journal_added}
+use Rattle.ledger.proofs.Machines.{numbers_sum, need_sum, none_needed, went, step_outside, step_full, step_range, reachable_step, set_after_range, needs_added, journal_added}
 use Rattle.ledger.proofs.Refusals.{declined_call, refused_call, LentEnough, lent_accepted, set_accepts, lent_again}
 
 module _ (h : Ledger) (st j : List ℕ) (a e : ℕ) (v : Bool) where
@@ -40,13 +43,9 @@ module _ (h : Ledger) (st j : List ℕ) (a e : ℕ) (v : Bool) where
   unfolding call_refusal
   call_outside p n = rw (p, lt-leb e (capacity_of h.set) n)
 
-  call_none_left : lent_refusal h (length st) (length j) ≡ 0 → e ≤ capacity_of h.set → h.used ≡ h.journal → call_refusal (range a e v) before ≡ 6
+  call_passes : lent_refusal h (length st) (length j) ≡ 0 → e ≤ capacity_of h.set → call_refusal (range a e v) before ≡ 0
   unfolding call_refusal
-  call_none_left p n o = rw (p, le-leb e (capacity_of h.set) n, eq-eqb h.used h.journal o)
-
-  call_passes : lent_refusal h (length st) (length j) ≡ 0 → e ≤ capacity_of h.set → (h.used ≡ h.journal → ⊥) → call_refusal (range a e v) before ≡ 0
-  unfolding call_refusal
-  call_passes p n o = rw (p, le-leb e (capacity_of h.set) n, ne_eqb h.used h.journal o)
+  call_passes p n = rw (p, le-leb e (capacity_of h.set) n)
 
   -- the set's own calls then pass too
   accepted : lent_refusal h (length st) (length j) ≡ 0 → e ≤ capacity_of h.set → range_refusal h.set (length st) e ≡ 0
@@ -66,29 +65,29 @@ module _ (h : Ledger) (st j : List ℕ) (a e : ℕ) (v : Bool) where
       refused_call (range a e v) before 4 (sym (call_outside l n)) (λ z. omega arith)
       (λ m x. step_outside m a e v (omega (arith, x.capacity)))
 
-  -- more numbers are needed than the journal has left
-  full : lent_refusal h (length st) (length j) ≡ 0 → e ≤ capacity_of h.set
-      → ((call_refusal (range a e v) before ≡ 0 → ⊥) → call_refusal (range a e v) before ≡ 6)
-      → ((s : Positions) → Represents h.set st s → h.journal - h.used < need_of s a e v) → (most_need (range a e v) ≤ h.journal - h.used → ⊥)
-      → CallEnsures (range a e v) before (refusal 6) before
-  full l n six more some =
-      declined_call (range a e v) before 6 (λ z. sym (six z)) (λ z. (refl, refl, more, some))
-      (λ m x. step_full m a e v (omega (arith, x.capacity)) (omega (arith, x.journal_length, x.in_use, more (set_of m) x.set)))
-
-  -- none is left
-  pub none_left : lent_refusal h (length st) (length j) ≡ 0 → e ≤ capacity_of h.set → h.used ≡ h.journal → CallEnsures (range a e v) before (refusal 6) before
-  unfolding need_of
-  none_left l n o = full l n (λ z. call_none_left l n o) (λ s x. omega arith) (λ w. omega arith)
-
-  -- more runs than fit
+  -- more numbers are needed than the journal has left: there are more runs than fit
   pub too_many : (most : ℕ) (fit : Bool) → lent_refusal h (length st) (length j) ≡ 0
-      → e ≤ capacity_of h.set → (h.used ≡ h.journal → ⊥) → most ≡ (h.journal - h.used - 1) / 2 → RunsFit h.set st a e v most fit → fit ≡ false
+      → e ≤ capacity_of h.set → most ≡ (h.journal - h.used - 1) / 2 → RunsFit h.set st a e v most fit → fit ≡ false
       → CallEnsures (range a e v) before (refusal 6) before
-  unfolding need_of
-  too_many most fit l n some o c d =
-      full l n (λ z. absurd (z (call_passes l n some)))
-      (λ s x. omega (arith, leb-false (length (changed_runs s a e v)) most (sym (c.fits (accepted l n) s x) ∙ d)))
-      (λ w. true≢false (sym (c.short (omega arith)) ∙ d))
+  too_many most fit l n o c d =
+      declined_call (range a e v) before 6 (λ z. absurd (z (call_passes l n))) (λ z. (refl, refl, more, some))
+      (λ m x. step_full m a e v (omega (arith, x.capacity)) (omega (arith, x.journal_length, x.in_use, more (set_of m) x.set)))
+    where
+      more : (s : Positions) → Represents h.set st s → h.journal - h.used < need_of s a e v
+      more s x =
+          omega (arith, need_sum s a e v, leb-false (length (changed_runs s a e v)) most (sym (c.fits (accepted l n) s x) ∙ d))
+
+      some : most_need (range a e v) ≤ h.journal - h.used → ⊥
+      some w = true≢false (sym (c.short (omega (arith, numbers_sum ((e - a + 1) / 2)))) ∙ d)
+
+  -- the journal has room for as many runs as fit
+  pub write_room : (most : ℕ) → lent_refusal h (length st) (length j) ≡ 0 → most ≡ (h.journal - h.used - 1) / 2
+      → (h.used + numbers_for most ≤ length j) × (h.used + numbers_for most ≤ 16384)
+  write_room most l o =
+      let a = lent_accepted h h.journal (length st) (length j) l in (
+        omega (arith, a.used_most, a.journal_long, numbers_sum most),
+        omega (arith, a.used_most, a.journal_most, numbers_sum most),
+      )
 
   -- ---- done: the runs are recorded, then the range is given its value, which the set does not refuse
 
@@ -99,10 +98,9 @@ module _ (h : Ledger) (st j : List ℕ) (a e : ℕ) (v : Bool) where
   abbrev pub moved : RangeBitset → ℕ → Ledger
   moved set u' = record { set = set; journal = h.journal; used = u' }
 
-  module _ (u' most : ℕ) (j' st' : List ℕ) (d : Changed ℕ RangeBitset) (lent : lent_refusal h (length st) (length j) ≡ 0)
-      (end_within : e ≤ capacity_of h.set) (some : h.used ≡ h.journal → ⊥) (most_is : most ≡ (h.journal - h.used - 1) / 2)
-      (fit : Bool) (fits : RunsFit h.set st a e v most fit) (all_fit : fit ≡ true) (writes : WritesCall h.set st a e v h.used most u' j j')
-      (same_journal : length j' ≡ length j) (changes : AssignEnsures h.set st a e v (Ok d) st') (same_storage : length st' ≡ length st) where
+  module _ (u' most : ℕ) (j' : List ℕ) (lent : lent_refusal h (length st) (length j) ≡ 0) (end_within : e ≤ capacity_of h.set)
+      (most_is : most ≡ (h.journal - h.used - 1) / 2) (fit : Bool) (fits : RunsFit h.set st a e v most fit) (all_fit : fit ≡ true)
+      (writes : WritesCall h.set st a e v h.used most u' j j') (same_journal : length j' ≡ length j) where
     enough : LentEnough h h.journal (length st) (length j)
     enough = lent_accepted h h.journal (length st) (length j) lent
 
@@ -110,7 +108,7 @@ module _ (h : Ledger) (st j : List ℕ) (a e : ℕ) (v : Bool) where
     passes = accepted lent end_within
 
     room : u' ≤ h.journal
-    room = omega (arith, enough.used_most, some, writes.most_used)
+    room = omega (arith, enough.used_most, writes.most_used, numbers_sum most)
 
     few : (s : Positions) → Represents h.set st s → length (changed_runs s a e v) ≤ most
     few s x = leb-true (length (changed_runs s a e v)) most (sym (fits.fits passes s x) ∙ all_fit)
@@ -123,56 +121,84 @@ module _ (h : Ledger) (st j : List ℕ) (a e : ℕ) (v : Bool) where
         step_range m a e v (omega (arith, x.capacity))
         (omega (arith, x.journal_length, x.in_use, room, need_is (set_of m) x.set))
 
-    abbrev next : Memory
-    next = memory (moved d.head u') st' j'
+    module _ (d : Changed ℕ RangeBitset) (st' : List ℕ) (changes : AssignEnsures h.set st a e v (Ok d) st') (same_storage : length st' ≡ length st) where
+      abbrev next : Memory
+      next = memory (moved d.head u') st' j'
 
-    set_next : (m : Machine) → Holds before m → Represents d.head st' (assigned (set_of m) a e v)
-    set_next m x = changes.represents passes (set_of m) x.set
+      set_next : (m : Machine) → Holds before m → Represents d.head st' (assigned (set_of m) a e v)
+      set_next m x = changes.represents passes (set_of m) x.set
 
-    in_use_next : (m : Machine) → Holds before m → u' ≡ used (next_of m (range a e v))
-    unfolding used
-    in_use_next m x = rw (needs_added (set_of m) m.standing a e v) (omega (arith, x.in_use, need_is (set_of m) x.set))
+      in_use_next : (m : Machine) → Holds before m → u' ≡ used (next_of m (range a e v))
+      unfolding used
+      in_use_next m x = rw (needs_added (set_of m) m.standing a e v) (omega (arith, x.in_use, need_is (set_of m) x.set))
 
-    journal_next : (m : Machine) → Holds before m
-        → take u' j' ≡ journal_of m.opened (next_of m (range a e v)).standing
-    unfolding set_of
-    journal_next m x =
-        rw (journal_added m.opened m.standing a e v, ← x.journal)
-        (writes.written_is passes (set_of m) x.set (few (set_of m) x.set))
+      journal_next : (m : Machine) → Holds before m
+          → take u' j' ≡ journal_of m.opened (next_of m (range a e v)).standing
+      unfolding set_of
+      journal_next m x =
+          rw (journal_added m.opened m.standing a e v, ← x.journal)
+          (writes.written_is passes (set_of m) x.set (few (set_of m) x.set))
 
-    holds_next : (m : Machine) → Holds before m → Holds next (next_of m (range a e v))
-    holds_next m x =
-        record {
-          reachable = rw (goes m x) at (reachable_step m (range a e v) x.reachable);
-          lent = lent_again h (moved d.head u') (length st) (length j) (length st') (length j') st' (assigned (set_of m) a e v) enough
-              changes.same_words (set_next m x) refl room same_storage same_journal;
-          capacity = ap (λ (n : ℕ). 64 * n) changes.same_words ∙ x.capacity;
-          journal_length = x.journal_length;
-          in_use = in_use_next m x;
-          set = rw (set_after_range m a e v) (set_next m x);
-          journal = journal_next m x;
-        }
+      holds_next : (m : Machine) → Holds before m → Holds next (next_of m (range a e v))
+      holds_next m x =
+          record {
+            reachable = rw (goes m x) at (reachable_step m (range a e v) x.reachable);
+            lent = lent_again h (moved d.head u') (length st) (length j) (length st') (length j') st' (assigned (set_of m) a e v) enough
+                changes.same_words (set_next m x) refl room same_storage same_journal;
+            capacity = ap (λ (n : ℕ). 64 * n) changes.same_words ∙ x.capacity;
+            journal_length = x.journal_length;
+            in_use = in_use_next m x;
+            set = rw (set_after_range m a e v) (set_next m x);
+            journal = journal_next m x;
+          }
 
-    flag_next : (m : Machine) → Holds before m → d.head.allocated ≡ flag_after h.set.allocated m (range a e v) (number d.answer)
-    flag_next m x =
-        ap (λ (y : RangeBitset). y.allocated) (changes.head passes (set_of m) x.set)
+      flag_next : (m : Machine) → Holds before m → d.head.allocated ≡ flag_after h.set.allocated m (range a e v) (number d.answer)
+      flag_next m x =
+          ap (λ (y : RangeBitset). y.allocated) (changes.head passes (set_of m) x.set)
 
-    pub recorded : CallEnsures (range a e v) before (number d.answer) next
-    recorded =
-        record {
-          refuses = λ z. absurd (z (call_passes lent end_within some));
-          only_6 = λ z. inl (changes.accepts passes);
-          exactly_6 = λ z s x.
-              accepted_refused (number d.answer) (changes.accepts passes)
-              ∙ sym (ap (λ (b : Bool). cond b 0 6) (le-leb (need_of s a e v) (h.journal - h.used) (omega (arith, room, need_is s x))));
-          short_6 = λ z o. changes.accepts passes;
-          unchanged = λ z. absurd (z (changes.accepts passes));
-          same_words = changes.same_words;
-          same_limit = refl;
-          used_most = λ z. room;
-          storage_kept = past_same _ _ changes.same_words changes.storage_kept;
-          journal_kept = writes.others;
-          answers = λ m x. rw (goes m x) (changes.answers passes (set_of m) x.set);
-          holds = λ m x. rw (goes m x) (holds_next m x);
-          flag = flag_next;
-        }
+      pub recorded : CallEnsures (range a e v) before (number d.answer) next
+      recorded =
+          record {
+            refuses = λ z. absurd (z (call_passes lent end_within));
+            only_6 = λ z. inl (changes.accepts passes);
+            exactly_6 = λ z s x.
+                accepted_refused (number d.answer) (changes.accepts passes)
+                ∙ sym (ap (λ (b : Bool). cond b 0 6) (le-leb (need_of s a e v) (h.journal - h.used) (omega (arith, room, need_is s x))));
+            short_6 = λ z o. changes.accepts passes;
+            unchanged = λ z. absurd (z (changes.accepts passes));
+            same_words = changes.same_words;
+            same_limit = refl;
+            used_most = λ z. room;
+            storage_kept = past_same _ _ changes.same_words changes.storage_kept;
+            journal_kept = writes.others;
+            answers = λ m x. rw (goes m x) (changes.answers passes (set_of m) x.set);
+            holds = λ m x. rw (goes m x) (holds_next m x);
+            flag = flag_next;
+          }
+
+    -- nothing changes, so that no number is written and the set need not be assigned
+
+    fresh_changes : h.set.allocated ≡ false → v ≡ true → (s : Positions) → Represents h.set st s → changed_count s a e v ≡ e - a
+    unfolding changed_count
+    fresh_changes p q s x = count_all (lacking s v) a e (λ i u w. ap₂ differ (x.fresh p i (omega (arith, end_within))) q)
+
+    flag_stays : (s : Positions) → Represents h.set st s → changed_count s a e v ≡ 0 → h.set.allocated ≡ (h.set.allocated || (v && ltb a e))
+    flag_stays s x none = go h.set.allocated refl v refl (ltb a e) refl
+      where
+        go : (b : Bool) → h.set.allocated ≡ b → (w : Bool) → v ≡ w → (l : Bool) → ltb a e ≡ l → b ≡ (b || (w && l))
+        go true p w q l r = refl
+        go false p false q l r = refl
+        go false p true q false r = refl
+        go false p true q true r = absurd (omega (arith, ltb-true a e r, fresh_changes p q s x, none))
+
+    pub untouched : u' ≡ h.used → CallEnsures (range a e v) before (number 0) (memory h st j')
+    untouched same = subst (λ (n : ℕ). CallEnsures (range a e v) before (number 0) (memory (moved h.set n) st j')) same (recorded unassigned st left refl)
+      where
+        unassigned : Changed ℕ RangeBitset
+        unassigned = record { answer = 0; head = h.set }
+
+        none : (s : Positions) → Represents h.set st s → changed_count s a e v ≡ 0
+        none s x = none_needed s a e v (omega (arith, need_is s x))
+
+        left : AssignEnsures h.set st a e v (Ok unassigned) st
+        left = same_set _ h.set st _ passes tt (λ s x. (ap number (sym (none s x)), assigned_none s a e v (none s x), flag_stays s x (none s x)))

@@ -1,5 +1,5 @@
 -- The returns of `wipe` and `take_back`: what each promises, from what the code has there. Assumes nothing.
-use Rattle.ledger.proofs.Kit.{◌≡◌, refl, sym, ap, ◌∙◌, subst, inl, Bool, true, false, not, ◌&&◌, ◌||◌, cond, or-false, List, [], ◌∷◌, ◌++◌, ℕ, ◌+◌, ◌*◌, ◌-◌, ◌/◌, ◌%◌, ◌≤◌, ◌<◌, min, arith, le-leb, eq-eqb, ne_eqb, eqb-true, eqb-false, eqb, leb, ltb, length, get_or, take, length-append, length-take-le, get_or-take, take-take, take_at}
+use Rattle.ledger.proofs.Kit.{◌≡◌, refl, sym, ap, ◌∙◌, subst, inl, Bool, true, false, not, ◌||◌, cond, and-true, or-false, List, [], ◌∷◌, ◌++◌, ℕ, ◌+◌, ◌*◌, ◌-◌, ◌/◌, ◌%◌, ◌≤◌, ◌<◌, min, arith, le-leb, eq-eqb, ne_eqb, eqb-true, eqb-false, eqb, leb, lt-ltb, length, get_or, take, length-append, length-take-le, get_or-take, take-take, take_at}
 use Rattle.positions.proofs.Replies.{accepted_refused}
 use Rattle.positions.specs.Positions.{Positions, count, one}
 use Rattle.positions.specs.Runs.{Run, changed_runs, lengths}
@@ -17,7 +17,7 @@ use Rattle.ledger.specs.Machine.{Machine, Standing, back, wipe, held, set_of, po
 use Rattle.ledger.specs.Journal.{entry, journal_of}
 use Rattle.ledger.specs.Memory.{Memory, memory, Holds, lent_refusal, wipe_refusal, call_refusal}
 use Rattle.ledger.specs.Entries.{CallEnsures, restores}
-use Rattle.ledger.specs.Inner.{last_of, read_runs, changed_by_runs, Within, AssignsRuns}
+use Rattle.ledger.specs.Inner.{last_of, read_runs, changed_by_runs, any_run, Within, AssignsRuns}
 use Rattle.ledger.specs.declared.Ledger.{Ledger}
 use Rattle.std.proofs.Common.{Option, Some, None, Ok, Err}
 use Rattle.answers.specs.Refusals.{number_of}
@@ -199,7 +199,7 @@ module _ (h : Ledger) (st j : List ℕ) where
       represents : Represents h' st' (held m.opened cs)
       in_use : h.used - (2 * n + 1) ≡ needs cs
       journal : take (h.used - (2 * n + 1)) j ≡ journal_of m.opened cs
-      flag : h'.allocated ≡ (h.set.allocated || (not c.value && ltb 0 c.changed))
+      flag : h'.allocated ≡ (h.set.allocated || not c.value)
 
     done : (m : Machine) → Holds (memory h st j) m → (c : Standing) (cs : List Standing) → m.standing ≡ c ∷ cs → BackDone m c cs
     unfolding set_of used standing_call
@@ -209,7 +209,7 @@ module _ (h : Ledger) (st j : List ℕ) where
           represents = subst (λ (x : Positions). Represents h' st' x) (set_after_back m.opened c cs) (b.reassigns.represents ok S t w);
           in_use = same_start j l rs c.value h.used n v room split r ∙ journal_length m.capacity m.opened cs all_stand.1;
           journal = same_journal j l rs c.value h.used n v room split r;
-          flag = b.reassigns.flag ok S t w ∙ ap (λ (x : Bool). h.set.allocated || (not c.value && x)) (any_lengths rs ∙ ap (ltb 0) sum);
+          flag = b.reassigns.flag ok S t w ∙ ap (λ (x : Bool). h.set.allocated || x) (rw any_some (and-true (not c.value)));
         }
       where
         s : Positions
@@ -250,6 +250,9 @@ module _ (h : Ledger) (st j : List ℕ) where
 
         sum : lengths rs ≡ c.changed
         sum = changed_lengths s c.start c.end c.value ∙ sym (ap (λ (x : Standing). x.changed) stands.as_made)
+
+        any_some : any_run rs ≡ true
+        any_some = any_lengths rs ∙ lt-ltb 0 (lengths rs) (omega (arith, sum, stands.some))
 
         few : c.changed ≤ 262144
         few =

@@ -1,14 +1,14 @@
 -- Take-back keeps the flag over every list of calls from new or open: with the flag clear no standing clearing has changed a
 -- position, so there is none to set again. Assumes nothing.
-use Rattle.ledger.proofs.Kit.{◌≡◌, refl, sym, ap, ◌∙◌, Bool, true, false, not, ◌&&◌, ◌||◌, true≢false, List, [], ◌∷◌, ℕ, arith, le-ltb, ltb-true, ltb-false, ltb}
+use Rattle.ledger.proofs.Kit.{◌≡◌, refl, sym, ap, ◌∙◌, Bool, true, false, not, ◌&&◌, ◌||◌, true≢false, cond, List, [], ◌∷◌, ℕ, ◌+◌, arith, ltb-true, ltb-false, ltb}
 use Rattle.positions.specs.Positions.{changed_count, differ, lacking}
 use Rattle.positions.proofs.Counts.{count_none}
 use Rattle.positions.specs.Replies.{Reply, numbers, refused_with}
-use Rattle.ledger.specs.Machine.{Machine, Standing, Call, range, back, wipe, set_of, standing_call, Verdict, admitted, declined, range_verdict, stands_any, decided, step, after, changed_by}
+use Rattle.ledger.specs.Machine.{Machine, Standing, Call, range, back, wipe, set_of, StandAll, Verdict, admitted, declined, range_verdict, stands_any, decided, step, after, changed_by}
 use Rattle.ledger.specs.Memory.{Memory, Holds}
 use Rattle.ledger.specs.Entries.{CallEnsures, restores, flag_after}
 use Rattle.ledger.specs.History.{Begun, by_new, by_open, Chain, none, call}
-use Rattle.ledger.proofs.Machines.{set_inside}
+use Rattle.ledger.proofs.Machines.{changed_added, set_inside}
 use Rattle.ledger.proofs.Histories.{begun}
 
 abbrev pub flag_of : Memory → Bool
@@ -45,12 +45,12 @@ module _ (x : Memory) (m : Machine) (q : Holds x m) (u : Unmarked x m) where
   module _ (r : Reply) (y : Memory) where
     unmarked_range : (a e : ℕ) (v : Bool) (w : Verdict) → r ≡ (decided w m (range a e v)).answer → flag_of y ≡ flag_after (flag_of x) m (range a e v) r
         → Unmarked y (decided w m (range a e v)).next
-    unfolding standing_call
     unmarked_range a e v (declined k) p g f = u (sym (g ∙ rw p) ∙ f)
-    unmarked_range a e true admitted p g f = omega (arith, u (or_clear (flag_of x) (true && ltb a e) (sym (g ∙ rw p) ∙ f)))
+    unmarked_range a e true admitted p g f =
+        omega (arith, changed_added false (set_of m) m.standing a e true, u (or_clear (flag_of x) (true && ltb a e) (sym (g ∙ rw p) ∙ f)))
     unmarked_range a e false admitted p g f =
         let z = or_clear (flag_of x) (false && ltb a e) (sym (g ∙ rw p) ∙ f) in
-        omega (arith, u z, clears_none a e z)
+        omega (arith, changed_added false (set_of m) m.standing a e false, u z, clears_none a e z)
 
     unmarked_back : (l : List Standing) → m.standing ≡ l → r ≡ (decided (stands_any l) m back).answer → flag_of y ≡ flag_after (flag_of x) m back r
         → Unmarked y (decided (stands_any l) m back).next
@@ -69,18 +69,17 @@ module _ (x : Memory) (m : Machine) (q : Holds x m) (u : Unmarked x m) where
   pub flag_kept : (r : Reply) (y : Memory) → CallEnsures back x r y → flag_of y ≡ flag_of x
   flag_kept r y k = k.flag m q ∙ by r (flag_of x) refl
     where
-      nothing : (l : List Standing) → changed_by false l ≡ 0 → restores l ≡ false
-      nothing [] z = refl
-      nothing (c ∷ cs) z = one_call c.value z
+      nothing : (l : List Standing) → StandAll m.capacity m.opened l → changed_by false l ≡ 0 → restores l ≡ false
+      nothing [] s z = refl
+      nothing (c ∷ cs) s z = one_call c.value z
         where
-          one_call : (v : Bool) → changed_by false ((record { start = c.start; end = c.end; value = v; changed = c.changed; needed = c.needed }) ∷ cs) ≡ 0
-              → (not v && ltb 0 c.changed) ≡ false
+          one_call : (v : Bool) → cond (differ v false) 0 c.changed + changed_by false cs ≡ 0 → not v ≡ false
           one_call true z = refl
-          one_call false z = le-ltb 0 c.changed (omega arith)
+          one_call false z = absurd (omega (arith, s.0.some))
 
       by : (r : Reply) (b : Bool) → flag_of x ≡ b → flag_after (flag_of x) m back r ≡ flag_of x
       by (numbers ns) true f = rw f
-      by (numbers ns) false f = rw f (nothing m.standing (u f))
+      by (numbers ns) false f = rw f (nothing m.standing q.reachable.standing (u f))
       by (refused_with k vs) b f = refl
 
 pub unmarked_chain : (x y : Memory) (m : Machine) (cs : List Call) (rs : List Reply) → Holds x m → Unmarked x m → Chain x cs rs y

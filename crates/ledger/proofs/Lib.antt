@@ -10,3 +10,4 @@ pub mod BackReturns
 pub mod OpenReturns
 pub mod Histories
 pub mod Flags
+pub mod Backs

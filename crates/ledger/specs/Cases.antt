@@ -80,7 +80,7 @@ cases =
     ∷ of_set 64 (assign_line 0 65 true ∷ assign_line 500 0 true ∷ []) (refusal 4 ∷ number 0 ∷ [])
     ∷ of_ledger 64 2 (mark 0 1 ∷ []) (refusal 6 ∷ [])
     ∷ of_ledger 64 3 (mark 0 1 ∷ []) (number 1 ∷ [])
-    ∷ of_ledger 64 1 (mark 5 5 ∷ used_line ∷ []) (number 0 ∷ number 1 ∷ [])
+    ∷ of_ledger 64 1 (mark 5 5 ∷ used_line ∷ []) (number 0 ∷ number 0 ∷ [])
     ∷ of_ledger 128 20
     (mark 10 70
     ∷ clear 20 30

@@ -1,5 +1,5 @@
 -- The ledger's promises: what new and open give, and the one promise of marking, clearing, take-back and wipe. Assumes nothing.
-use Rattle.std.specs.Prelude.{◌≡◌, ℕ, ◌+◌, ◌-◌, ◌*◌, ◌/◌, ◌<◌, ◌≤◌, Bool, true, false, cond, not, ◌&&◌, ◌||◌, ◌⊎◌, List, [], ◌∷◌, length, ◌==◌, ◌≢◌, nat_le, nat_lt, slice_index, Result, Ok, Err}
+use Rattle.std.specs.Prelude.{◌≡◌, ℕ, ◌+◌, ◌-◌, ◌/◌, ◌<◌, ◌≤◌, Bool, true, false, cond, not, ◌&&◌, ◌||◌, ◌⊎◌, List, [], ◌∷◌, length, ◌==◌, ◌≢◌, nat_le, nat_lt, slice_index, Result, Ok, Err}
 use Rattle.range_bitset.specs.Layout.{SamePast}
 use Rattle.positions.specs.Positions.{Positions}
 use Rattle.range_bitset.specs.Represents.{Represents}
@@ -10,7 +10,7 @@ use Rattle.answers.specs.declared.Refusal.TheVariants.{Size, Short}
 use Rattle.answers.specs.declared.Changed.{Changed}
 use Rattle.range_bitset.specs.Answers.{of_counted, allowed_capacity}
 use Rattle.saved_list.specs.Format.{saved_words, saved_count, saved_capacity, saved_positions, headed, whole, first_bad_run}
-use Rattle.ledger.specs.Machine.{Machine, Standing, opened_with, Call, range, back, wipe, need_of, step}
+use Rattle.ledger.specs.Machine.{Machine, Standing, opened_with, Call, range, back, wipe, numbers_for, need_of, step}
 use Rattle.ledger.specs.Memory.{Memory, memory, lent_enough, call_refusal, Holds}
 use Rattle.ledger.specs.declared.Ledger.{Ledger}
 use Rattle.ledger.specs.declared.NotOpened.{NotOpened}
@@ -33,14 +33,14 @@ call_need wipe s = 0
 -- how many it can need at most, whatever the set: two runs have a position between them, so that n positions have at most
 -- (n + 1) / 2 runs (law `need_most` in proofs/RecordedRuns)
 abbrev pub most_need : Call → ℕ
-most_need (range a e v) = 1 + 2 * ((e - a + 1) / 2)
+most_need (range a e v) = numbers_for ((e - a + 1) / 2)
 most_need back = 0
 most_need wipe = 0
 
--- the last standing call is a clearing that changed positions, so that taking it back sets some
+-- the last standing call is a clearing, so that taking it back sets positions
 abbrev pub restores : List Standing → Bool
 restores [] = false
-restores (c ∷ cs) = not c.value && nat_lt 0 c.changed
+restores (c ∷ cs) = not c.value
 
 -- 01's flag after a call: an accepted marking over at least one position sets it, every other call keeps it. (Take-back that
 -- sets positions needs it set. From new or open it then is, law `flag_kept_after` in proofs/Flags; a memory that holds the same
@@ -53,8 +53,7 @@ flag_after x m back (refused_with k vs) = x
 flag_after x m wipe r = x
 
 pub record CallEnsures (c : Call) (before : Memory) (r : Reply) (next : Memory) : Type 0 where
-  -- on any memory: 2, 3, 4 and 5 exactly as the table has them, and 6 where no number is left; 6 is the only other refusal, and
-  -- only of a marking or clearing
+  -- on any memory: 2, 3, 4 and 5 exactly as the table has them; 6 is the only other refusal, and only of a marking or clearing
   pub refuses : (call_refusal c before ≢ 0) → r ≡ refusal (call_refusal c before)
   pub only_6 : call_refusal c before ≡ 0 → Accepted r ⊎ ((r ≡ refusal 6) × (ranges c ≡ true))
   -- 6 for want of numbers alone, whatever the journal holds: for every set that the memory represents; and on any memory never

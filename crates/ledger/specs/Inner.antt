@@ -1,6 +1,6 @@
 -- Contracts of the inner functions. No caller of the crate sees them, and nothing here need be believed: the entries'
 -- promises speak of none of it. Assumes nothing.
-use Rattle.std.specs.Prelude.{◌≡◌, ℕ, zero, suc, ◌+◌, ◌-◌, ◌*◌, ◌/◌, ◌%◌, ◌<◌, ◌≤◌, min, Bool, false, cond, ◌&&◌, ◌||◌, ◌⊎◌, List, [], ◌∷◌, ◌++◌, length, take, ◌==◌, nat_lt, nat_le, slice_index, Option, Some, None, Result, Ok, Err}
+use Rattle.std.specs.Prelude.{◌≡◌, ℕ, zero, suc, ◌+◌, ◌-◌, ◌/◌, ◌%◌, ◌<◌, ◌≤◌, min, Bool, false, cond, ◌&&◌, ◌||◌, ◌⊎◌, List, [], ◌∷◌, ◌++◌, length, take, ◌==◌, nat_lt, nat_le, slice_index, Option, Some, None, Result, Ok, Err}
 use Rattle.positions.specs.Positions.{Positions, assigned, changed_count}
 use Rattle.positions.specs.Runs.{Run, run, changed_runs, assigned_runs}
 use Rattle.range_bitset.specs.Layout.{SamePast}
@@ -10,19 +10,24 @@ use Rattle.answers.specs.declared.Refusal.TheVariants.{Size}
 use Rattle.range_bitset.specs.Answers.{range_refusal, storage_refusal, allowed_capacity}
 use Rattle.range_bitset.specs.declared.RangeBitset.{RangeBitset}
 use Rattle.saved_list.specs.Format.{runs_after}
-use Rattle.ledger.specs.Machine.{need_of}
+use Rattle.ledger.specs.Machine.{numbers_for, need_of}
 use Rattle.ledger.specs.Journal.{written}
 use Rattle.ledger.specs.Entries.{new_head}
 use Rattle.ledger.specs.declared.Ledger.{Ledger}
 
--- the runs that a call changes, at most `most`, and its closing number, written into the journal from u on: u' numbers are then in use
+-- the numbers that a call which gives a..e the value v adds to the journal: none where it changes no position
+unfoldable pub numbers_added : Positions → ℕ → ℕ → Bool → List ℕ
+numbers_added s a e v = cond (nat_lt 0 (changed_count s a e v)) (written s a e v) []
+
+-- the runs that a call changes, at most `most`, and where there are any its closing number, written into the journal from u on: u'
+-- numbers are then in use
 pub record WritesCall (h : RangeBitset) (st : List ℕ) (a e : ℕ) (v : Bool) (u most u' : ℕ) (j j' : List ℕ) : Type 0 where
-  pub most_used : u' ≤ u + (2 * most + 1)
+  pub most_used : u' ≤ u + numbers_for most
   pub others : (i : ℕ) → (i < u) ⊎ (u' ≤ i) → slice_index j' i ≡ slice_index j i
   pub in_use : range_refusal h (length st) e ≡ 0 → (s : Positions) → Represents h st s → length (changed_runs s a e v) ≤ most
       → u' ≡ u + need_of s a e v
   pub written_is : range_refusal h (length st) e ≡ 0 → (s : Positions) → Represents h st s → length (changed_runs s a e v) ≤ most
-      → take u' j' ≡ take u j ++ written s a e v
+      → take u' j' ≡ take u j ++ numbers_added s a e v
 
 -- n runs read from a place of the journal on
 abbrev pub read_runs : List ℕ → ℕ → ℕ → List Run

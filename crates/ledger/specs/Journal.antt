@@ -16,7 +16,7 @@ pairs rs = encoded pair rs
 abbrev pub entry : List Run → Bool → List ℕ
 entry rs v = pairs rs ++ (2 * length rs + one v) ∷ []
 
--- the numbers that giving a..e the value v puts into the journal
+-- the numbers that giving a..e the value v puts into the journal, where the call stands
 unfoldable pub written : Positions → ℕ → ℕ → Bool → List ℕ
 written s a e v = entry (changed_runs s a e v) v
 

@@ -1,7 +1,7 @@
 -- 01's plain machine of the ledger, in the order of its sentences: what it keeps, its set, what a call changes and needs,
 -- what is refused, what is answered, and where it stands afterwards. It is fed the capacity or the file's set, then J and
 -- each call's kind and numbers, and nothing of the program's record. Assumes nothing.
-use Rattle.std.specs.Prelude.{◌≡◌, ℕ, suc, ◌+◌, ◌-◌, ◌*◌, ◌≤◌, Bool, true, false, cond, List, [], ◌∷◌, length, nat_le}
+use Rattle.std.specs.Prelude.{◌≡◌, ℕ, suc, ◌+◌, ◌-◌, ◌*◌, ◌<◌, ◌≤◌, Bool, true, false, cond, List, [], ◌∷◌, length, ◌==◌, nat_le, nat_lt}
 use Rattle.positions.specs.Positions.{Positions, none, assigned, count, changed_count, differ}
 use Rattle.positions.specs.Runs.{changed_runs}
 use Rattle.positions.specs.Replies.{Reply, number, refusal}
@@ -51,9 +51,13 @@ set_of m = held m.opened m.standing
 unfoldable pub population : Machine → ℕ
 population m = count (set_of m) 0 m.capacity
 
--- a call changes the covered positions that do not have its value yet, and needs 1 + 2 × runs numbers
+-- how many journal numbers n runs need: 1 + 2 × runs, and none where there is no run
+abbrev pub numbers_for : ℕ → ℕ
+numbers_for n = cond (n == 0) 0 (1 + 2 * n)
+
+-- a call changes the covered positions that do not have its value yet, and needs the numbers for the runs that it changes
 unfoldable pub need_of : Positions → ℕ → ℕ → Bool → ℕ
-need_of s a e v = 1 + 2 * length (changed_runs s a e v)
+need_of s a e v = numbers_for (length (changed_runs s a e v))
 
 -- the call as it stands once made over the set s
 unfoldable pub standing_call : Positions → ℕ → ℕ → Bool → Standing
@@ -110,14 +114,15 @@ amount m wipe = population m
 abbrev pub with_standing : Machine → List Standing → Machine
 with_standing m cs = record { capacity = m.capacity; journal = m.journal; opened = m.opened; standing = cs }
 
+-- a call that changed no position does not stand
 abbrev pub added : Standing → List Standing → List Standing
-added c cs = c ∷ cs
+added c cs = cond (nat_lt 0 c.changed) (c ∷ cs) cs
 
 abbrev pub rest : List Standing → List Standing
 rest [] = []
 rest (c ∷ cs) = cs
 
--- a marking or clearing is appended, changing or not; take-back drops the last call; wipe empties opened set and list
+-- a marking or clearing is appended where it changes a position; take-back drops the last call; wipe empties opened set and list
 abbrev pub next_of : Machine → Call → Machine
 next_of m (range a e v) = with_standing m (added (standing_call (set_of m) a e v) m.standing)
 next_of m back = with_standing m (rest m.standing)
@@ -158,9 +163,10 @@ changed_by v (c ∷ cs) = cond (differ c.value v) 0 c.changed + changed_by v cs
 
 -- ---- the machines that a list of calls gives
 
--- a standing call is as it was made over the set s, and lies within the capacity
+-- a standing call is as it was made over the set s, lies within the capacity, and changed a position
 pub record Stands (capacity : ℕ) (s : Positions) (c : Standing) : Type 0 where
   pub within : c.end ≤ capacity
+  pub some : 0 < c.changed
   pub as_made : c ≡ standing_call s c.start c.end c.value
 
 -- each standing call over the set that the calls before it give

@@ -37,12 +37,11 @@ lent_refusal h n k = refusal_for h h.journal n k
 abbrev pub wipe_refusal : Ledger → ℕ → ℕ
 wipe_refusal h n = refusal_for h 0 n 0
 
--- 4: an end above the capacity (a point p ends at p + 1); 6: U = J, since every marking and clearing needs a number;
--- 5: take-back with U = 0
+-- 4: an end above the capacity (a point p ends at p + 1); 5: take-back with U = 0
 unfoldable pub call_refusal : Call → Memory → ℕ
 call_refusal (range a e v) x =
     first_of (lent_refusal x.head (length x.storage) (length x.journal))
-    (cond (nat_le e (capacity_of x.head.set)) (cond (x.head.used == x.head.journal) 6 0) 4)
+    (cond (nat_le e (capacity_of x.head.set)) 0 4)
 call_refusal back x = first_of (lent_refusal x.head (length x.storage) (length x.journal)) (cond (x.head.used == 0) 5 0)
 call_refusal wipe x = wipe_refusal x.head (length x.storage)
 

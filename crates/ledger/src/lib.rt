@@ -233,10 +233,7 @@ impl Ledger {
         if end > 64 * (self.set.words as usize) {
             return Err(Refusal::Outside);
         }
-        if self.used == self.journal {
-            return Err(Refusal::JournalFull);
-        }
-        let most = (self.journal - self.used - 1) / 2;
+        let most = (self.journal - self.used).saturating_sub(1) / 2;
         let runs = Runs {
             set: self.set,
             storage,
@@ -248,6 +245,13 @@ impl Ledger {
             return Err(Refusal::JournalFull);
         }
         let used = Self::write_call(journal, self.used, runs, most);
+        if used == self.used {
+            // nothing changes: the call does not stand, and the set is as it would be
+            return Ok(Changed {
+                answer: 0,
+                head: self,
+            });
+        }
         let done = self.set.assign(storage, start, end, value)?;
         Ok(Changed {
             answer: done.answer,

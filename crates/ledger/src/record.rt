@@ -2,6 +2,7 @@
 ghost use Rattle.std.specs.Prelude.{◌≡◌, ◌+◌, ◌*◌, ◌≤◌, length};
 ghost use Rattle.positions.specs.Positions.{one};
 ghost use Rattle.set_runs.specs.Walks.{WritesRuns};
+ghost use Rattle.ledger.specs.Machine.{numbers_for};
 ghost use Rattle.ledger.specs.Journal.{pair};
 ghost use Rattle.ledger.specs.Inner.{WritesCall};
 
@@ -10,13 +11,16 @@ use set_runs::Runs;
 
 impl Ledger {
     // Write the runs that a call changes, at most `most`, and its closing number, from `used` on. Answers how many numbers are then
-    // in use.
+    // in use. A call that changes nothing writes nothing.
     pub(crate) fn write_call(journal: &mut [u32], used: u32, runs: Runs, most: u32) -> u32
-        requires { (used + (2 * most + 1) ≤ length journal.old) × (used + (2 * most + 1) ≤ 16384) }
+        requires { (used + numbers_for most ≤ length journal.old) × (used + numbers_for most ≤ 16384) }
         ensures { WritesCall runs.entry.set runs.entry.storage.now runs.entry.from runs.entry.end runs.entry.value used most result journal.old journal.new }
     {
         let value = runs.value;
         let written = Self::write_runs(journal, used, runs, most);
+        if written == 0 {
+            return used;
+        }
         let last = used + 2 * written;
         journal[last as usize] = Self::packed(written, value);
         last + 1

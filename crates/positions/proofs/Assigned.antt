@@ -4,6 +4,7 @@ use Rattle.positions.proofs.Kit.{◌≡◌, refl, sym, ap, ◌∙◌, fun_ext, B
 use Rattle.positions.specs.Positions.{Positions, none, within, assigned, one, count_from, count, differ, lacking, changed_count}
 use Rattle.positions.proofs.Ranges.{Place, inside, before, behind, place, within_in, within_before, within_behind}
 use Rattle.positions.proofs.Counts.{count_split, count_none, count_same, count_empty, count_le, count_zero, count_from_balance, count_from_none}
+use Rattle.positions.proofs.Bools.{same₃}
 
 -- ---- one range, at one position
 
@@ -146,6 +147,17 @@ assigned_count s a e v x y h k = go v
     go : (v : Bool) → count (assigned s a e v) x y + loss v (changed_count s a e v) ≡ count s x y + gain v (changed_count s a e v)
     go true = omega (arith, count_from_balance s (assigned s a e true) none (changes true) x (y - x) marks, all true, zero_of)
     go false = omega (arith, count_from_balance s (assigned s a e false) (changes false) none x (y - x) clears, all false, zero_of)
+
+-- the changed count is in how many positions the two sets differ, over any range around the call's
+pub changed_differ : (s : Positions) (a e : ℕ) (v : Bool) (x y : ℕ) → x ≤ a → e ≤ y
+    → count (λ i. differ (assigned s a e v i) (s i)) x y ≡ changed_count s a e v
+unfolding assigned changed_count clip
+changed_differ s a e v x y h k =
+    count_same (λ i. differ (assigned s a e v i) (s i)) (clip a e (lacking s v)) x y (λ i p q. by (within a e i) (s i) v)
+    ∙ count_clip (lacking s v) a e x y h k
+  where
+    by : (w z v : Bool) → differ (cond w v z) z ≡ (w && differ z v)
+    by = same₃ (λ w z v. differ (cond w v z) z) (λ w z v. w && differ z v) tt
 
 -- the changed count is how far the two counts lie apart, over any range around the call's
 pub changed_apart : (s : Positions) (a e : ℕ) (v : Bool) (x y : ℕ) → x ≤ a → e ≤ y

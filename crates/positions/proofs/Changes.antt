@@ -1,9 +1,9 @@
 -- Laws for code that walks a call's changed runs by searches, and that takes a call back run by run. Assumes nothing.
-use Rattle.positions.proofs.Kit.{◌≡◌, refl, sym, ap, ◌∙◌, fun_ext, subst, Bool, true, false, not, cond, ◌&&◌, Bool·not-not, true≢false, false≢true, List, [], ◌∷◌, ◌++◌, ℕ, suc, ◌*◌, ◌-◌, ◌≤◌, ◌<◌, arith, ltb-true, ltb-false, leb-true, leb-false, ltb, leb, length}
-use Rattle.positions.specs.Positions.{Positions, assigned, within, differ, lacking, Place, found_at, not_found, first, changed_count}
+use Rattle.positions.proofs.Kit.{◌≡◌, refl, sym, ap, ◌∙◌, fun_ext, subst, Bool, true, false, not, cond, ◌&&◌, Bool·not-not, true≢false, false≢true, List, [], ◌∷◌, ◌++◌, ℕ, suc, ◌*◌, ◌-◌, ◌≤◌, ◌<◌, min, arith, ltb-true, ltb-false, leb-true, leb-false, ltb, leb, length}
+use Rattle.positions.specs.Positions.{Positions, assigned, within, differ, lacking, Place, found_at, not_found, count, first, changed_count}
 use Rattle.positions.specs.Runs.{Run, run, runs, changed_runs, place_or, run_end, assigned_runs, covered, lengths, Ascending}
 use Rattle.positions.proofs.Ranges.{within_in, within_behind}
-use Rattle.positions.proofs.Counts.{count_all}
+use Rattle.positions.proofs.Counts.{count_all, count_empty}
 use Rattle.positions.proofs.Runs.{runs_only, runs_next, runs_empty, runs_lengths, runs_ascending, runs_covered, assigned_runs_at}
 use Rattle.positions.proofs.Searches.{differ_same, differ_other, IsFirst, Searched, hit, miss, first_means}
 
@@ -83,6 +83,25 @@ changed_few s a e v = go (leb a e) refl
     go false x =
         let h : e < a = leb-false a e x in
         omega (arith, ap length (runs_empty (lacking s v) a e (omega arith)))
+
+-- a set has a run where it has a position, and a call changes one where it changes a position
+
+pub some_run : (d : Positions) (a e : ℕ) → min 1 (length (runs d a e)) ≡ min 1 (count d a e)
+some_run d a e = go (leb a e) refl
+  where
+    by : (rs : List Run) → Ascending a e rs → lengths rs ≡ count d a e → min 1 (length rs) ≡ min 1 (count d a e)
+    by [] p q = omega (arith, q)
+    by (r ∷ rs) p q = omega (arith, p.1, q)
+
+    go : (b : Bool) → leb a e ≡ b → min 1 (length (runs d a e)) ≡ min 1 (count d a e)
+    go true x = by (runs d a e) (runs_ascending d a e (leb-true a e x)) (runs_lengths d a e)
+    go false x =
+        let h : e < a = leb-false a e x in
+        rw (runs_empty d a e (omega arith), count_empty d a e (omega arith))
+
+pub changed_some : (s : Positions) (a e : ℕ) (v : Bool) → min 1 (length (changed_runs s a e v)) ≡ min 1 (changed_count s a e v)
+unfolding changed_runs changed_count
+changed_some s a e v = some_run (lacking s v) a e
 
 -- taking back, run by run
 

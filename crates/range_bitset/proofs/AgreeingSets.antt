@@ -1,11 +1,14 @@
--- Sets that agree below the capacity are held by the same storages. Assumes nothing.
-use Rattle.range_bitset.proofs.Kit.{◌≡◌, ap, ◌∙◌, ap₂, not, ◌&&◌, List, ℕ, ◌+◌, ◌*◌, ◌/◌, ◌<◌, arith, eqb}
+-- Sets that agree below the capacity are held by the same storages, and a memory represents one set below it. Assumes nothing.
+use Rattle.range_bitset.proofs.Kit.{◌≡◌, refl, sym, ap, ◌∙◌, ap₂, Bool, true, false, not, ◌&&◌, List, ℕ, ◌+◌, ◌*◌, ◌/◌, ◌%◌, ◌<◌, arith, eqb}
 use Rattle.positions.specs.Positions.{Positions}
 use Rattle.positions.proofs.Counts.{count_same}
+use Rattle.bits.specs.Bit.{bit}
 use Rattle.bits.proofs.Words.{mask_ext}
 use Rattle.range_bitset.specs.Layout.{blocks}
-use Rattle.range_bitset.specs.Read.{ALL}
-use Rattle.range_bitset.specs.Represents.{word_of, nonzero_mask, full_mask, block_count, valid, closed, masked, Stored}
+use Rattle.range_bitset.specs.Read.{ALL, word_read}
+use Rattle.range_bitset.specs.Represents.{word_of, nonzero_mask, full_mask, block_count, valid, closed, masked, Stored, Represents, capacity_of}
+use Rattle.range_bitset.specs.declared.RangeBitset.{RangeBitset}
+use Rattle.range_bitset.proofs.SetWords.{in_word, word_is}
 
 module _ (W : ℕ) (s t : Positions) (e : (i : ℕ) → i < 64 * W → s i ≡ t i) where
   word_agrees : (k : ℕ) → k < W → word_of s k ≡ word_of t k
@@ -39,3 +42,14 @@ module _ (W : ℕ) (s t : Positions) (e : (i : ℕ) → i < 64 * W → s i ≡ t
             let w = word_agrees k l in
             h.stored k l (masked_agrees (k / 64) ∙ m) (ap (λ (x : ℕ). not (eqb x 0)) w ∙ a) (ap (λ (x : ℕ). eqb x ALL) w ∙ f) ∙ w;
       }
+
+-- what a memory represents is one set, as far as its capacity
+pub represented_one : (h : RangeBitset) (st : List ℕ) (s t : Positions) → Represents h st s → Represents h st t → (i : ℕ) → i < capacity_of h → s i ≡ t i
+represented_one h st s t p q i l = by h.allocated refl
+  where
+    read : (r : Positions) → Stored h.words st r → r i ≡ bit (word_read h.words st (i / 64)) (i % 64)
+    read r z = sym (ap (λ (x : ℕ). bit x (i % 64)) (word_is h.words st r closed z (i / 64) (omega arith)) ∙ in_word r i)
+
+    by : (b : Bool) → h.allocated ≡ b → s i ≡ t i
+    by true e = read s (p.begun e) ∙ sym (read t (q.begun e))
+    by false e = p.fresh e i l ∙ sym (q.fresh e i l)

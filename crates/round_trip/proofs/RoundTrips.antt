@@ -1,13 +1,14 @@
 -- The two round trips, as theorems over what the writer and `open` promise. Assumes nothing.
-use Rattle.round_trip.proofs.Kit.{◌≡◌, refl, sym, ap, ap₂, ◌∙◌, subst, Bool, true, false, not, cond, ◌&&◌, List, [], ◌∷◌, ◌++◌, ℕ, ◌/◌, ◌%◌, ◌≤◌, ◌<◌, arith, eqb, leb, ltb, ne_eqb, eqb-true, eqb-false, le-ltb, lt-ltb, ltb-false, length, take, drop, take-append_seam}
+use Rattle.round_trip.proofs.Kit.{◌≡◌, refl, sym, ap, ap₂, ◌∙◌, subst, Bool, true, false, not, cond, ◌&&◌, List, [], ◌∷◌, ◌++◌, ℕ, ◌/◌, ◌%◌, ◌≤◌, ◌<◌, arith, eqb, leb, ltb, eqb-true, eqb-false, le-ltb, lt-ltb, ltb-false, length, take, drop, take-append_seam}
 use Rattle.positions.specs.Positions.{Positions, count}
-use Rattle.positions.specs.Runs.{Run, runs, covered, lengths, Ascending}
+use Rattle.positions.specs.Runs.{Run, runs, covered}
 use Rattle.positions.specs.Replies.{Reply, numbers, refused_with, number, refusal, Accepted}
 use Rattle.positions.proofs.Bools.{and_left}
+use Rattle.positions.proofs.Changes.{some_run}
 use Rattle.positions.proofs.Counts.{count_same}
 use Rattle.positions.proofs.Ranges.{within_in}
 use Rattle.positions.proofs.Replies.{numbers_refusal}
-use Rattle.positions.proofs.Runs.{runs_ascending, runs_covered, runs_lengths}
+use Rattle.positions.proofs.Runs.{runs_ascending, runs_covered}
 use Rattle.range_bitset.specs.Layout.{allowed}
 use Rattle.range_bitset.specs.Represents.{Represents, capacity_of}
 use Rattle.range_bitset.specs.Answers.{Counted, of_counted, allowed_capacity, good_head, storage_refusal}
@@ -100,13 +101,13 @@ represents_agrees h st s t e r =
       counted = r.counted ∙ count_same s t 0 (capacity_of h) (λ i u v. e i v);
     }
 
--- a set has a run where it has a position
-some_run : (s : Positions) (a e : ℕ) → a ≤ e → not (eqb (length (runs s a e)) 0) ≡ ltb 0 (count s a e)
-some_run s a e l = by (runs s a e) (runs_ascending s a e l) (runs_lengths s a e)
+-- a file has a run where its set has a position
+run_told : (s : Positions) (a e : ℕ) → not (eqb (length (runs s a e)) 0) ≡ ltb 0 (count s a e)
+run_told s a e = by (eqb (length (runs s a e)) 0) refl
   where
-    by : (rs : List Run) → Ascending a e rs → lengths rs ≡ count s a e → not (eqb (length rs) 0) ≡ ltb 0 (count s a e)
-    by [] p q = sym (le-ltb 0 (count s a e) (omega arith))
-    by (r ∷ rs) p q = ap not (ne_eqb (length (r ∷ rs)) 0 (λ z. omega arith)) ∙ sym (lt-ltb 0 (count s a e) (omega (arith, p.1)))
+    by : (b : Bool) → eqb (length (runs s a e)) 0 ≡ b → not b ≡ ltb 0 (count s a e)
+    by true z = sym (le-ltb 0 (count s a e) (omega (arith, some_run s a e, eqb-true (length (runs s a e)) 0 z)))
+    by false z = let n = eqb-false (length (runs s a e)) 0 z in sym (lt-ltb 0 (count s a e) (omega (arith, some_run s a e)))
 
 none_used : (l : Ledger) (st journal : List ℕ) (c j : ℕ) (o : Positions) → Holds (memory l st journal) (opened_with c j o) → l.used ≡ 0
 unfolding used
@@ -155,7 +156,7 @@ module _ (h : RangeBitset) (st : List ℕ) (s : Positions) (rep : Represents h s
           refuses = opens.refuses ∙ open_back h (length st) lent s j (length st₂) (length journal);
           same_capacity = same_words;
           same_positions = same_set;
-          flag = λ l e. opens.flag l e ∙ ap (λ (k : ℕ). not (eqb k 0)) few_back ∙ some_run s 0 (capacity_of h) (omega arith);
+          flag = λ l e. opens.flag l e ∙ ap (λ (k : ℕ). not (eqb k 0)) few_back ∙ run_told s 0 (capacity_of h);
           no_calls = λ l e. ((opens.holds l e).journal_length, none_used l _ _ _ _ _ (opens.holds l e));
         }
 
