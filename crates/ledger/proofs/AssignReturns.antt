@@ -1,5 +1,5 @@
 -- Laws for marking and clearing as calls: one for each return of `assign`, with the machine's step there. Assumes nothing.
-use Rattle.ledger.proofs.Kit.{◌≡◌, refl, sym, ap, ◌∙◌, inl, Bool, true, false, true≢false, cond, List, ℕ, ◌+◌, ◌*◌, ◌-◌, ◌/◌, ◌≤◌, ◌<◌, arith, le-leb, lt-leb, leb-true, leb-false, ltb-true, ltb, ne_eqb, length, take, subst, ap₂, ◌&&◌, ◌||◌}
+use Rattle.ledger.proofs.Kit.{◌≡◌, refl, sym, ap, ◌∙◌, inl, Bool, true, false, true≢false, cond, List, ℕ, ◌+◌, ◌*◌, ◌-◌, ◌/◌, ◌≤◌, ◌<◌, arith, le-leb, lt-leb, leb-true, leb-false, ltb-true, ltb, ne_eqb, length, take, ap₂, ◌&&◌, ◌||◌}
 use Rattle.positions.proofs.Replies.{accepted_refused}
 use Rattle.positions.specs.Positions.{Positions, assigned, changed_count, differ, lacking}
 use Rattle.positions.proofs.Assigned.{assigned_none}
@@ -98,28 +98,57 @@ module _ (h : Ledger) (st j : List ℕ) (a e : ℕ) (v : Bool) where
   abbrev pub moved : RangeBitset → ℕ → Ledger
   moved set u' = record { set = set; journal = h.journal; used = u' }
 
-  module _ (u' most : ℕ) (j' : List ℕ) (lent : lent_refusal h (length st) (length j) ≡ 0) (end_within : e ≤ capacity_of h.set)
-      (most_is : most ≡ (h.journal - h.used - 1) / 2) (fit : Bool) (fits : RunsFit h.set st a e v most fit) (all_fit : fit ≡ true)
-      (writes : WritesCall h.set st a e v h.used most u' j j') (same_journal : length j' ≡ length j) where
+  -- the call passes the table, its runs fit, and they are in the journal j'
+  pub record RunsWritten (u' most : ℕ) (j' : List ℕ) : Type 0 where
+    pub lent : lent_refusal h (length st) (length j) ≡ 0
+    pub end_within : e ≤ capacity_of h.set
+    pub most_is : most ≡ (h.journal - h.used - 1) / 2
+    pub fits : RunsFit h.set st a e v most true
+    pub writes : WritesCall h.set st a e v h.used most u' j j'
+    pub same_journal : length j' ≡ length j
+
+  module _ (u' most : ℕ) (j' : List ℕ) (w : RunsWritten u' most j') where
     enough : LentEnough h h.journal (length st) (length j)
-    enough = lent_accepted h h.journal (length st) (length j) lent
+    enough = lent_accepted h h.journal (length st) (length j) w.lent
 
     passes : range_refusal h.set (length st) e ≡ 0
-    passes = accepted lent end_within
+    passes = accepted w.lent w.end_within
 
     room : u' ≤ h.journal
-    room = omega (arith, enough.used_most, writes.most_used, numbers_sum most)
+    room = omega (arith, enough.used_most, w.writes.most_used, w.most_is, numbers_sum most)
 
     few : (s : Positions) → Represents h.set st s → length (changed_runs s a e v) ≤ most
-    few s x = leb-true (length (changed_runs s a e v)) most (sym (fits.fits passes s x) ∙ all_fit)
+    few s x = leb-true (length (changed_runs s a e v)) most (sym (w.fits.fits passes s x))
 
     need_is : (s : Positions) → Represents h.set st s → u' ≡ h.used + need_of s a e v
-    need_is s x = writes.in_use passes s x (few s x)
+    need_is s x = w.writes.in_use passes s x (few s x)
 
     goes : (m : Machine) → Holds before m → step m (range a e v) ≡ went m (range a e v)
     goes m x =
         step_range m a e v (omega (arith, x.capacity))
         (omega (arith, x.journal_length, x.in_use, room, need_is (set_of m) x.set))
+
+    -- nothing changes: no number is written, and the set is as its own call would leave it
+
+    fresh_changes : h.set.allocated ≡ false → v ≡ true → (s : Positions) → Represents h.set st s → changed_count s a e v ≡ e - a
+    unfolding changed_count
+    fresh_changes p q s x = count_all (lacking s v) a e (λ i u l. ap₂ differ (x.fresh p i (omega (arith, w.end_within))) q)
+
+    flag_stays : (s : Positions) → Represents h.set st s → changed_count s a e v ≡ 0 → h.set.allocated ≡ (h.set.allocated || (v && ltb a e))
+    flag_stays s y none = go h.set.allocated refl v refl (ltb a e) refl
+      where
+        go : (b : Bool) → h.set.allocated ≡ b → (x : Bool) → v ≡ x → (l : Bool) → ltb a e ≡ l → b ≡ (b || (x && l))
+        go true p x q l r = refl
+        go false p false q l r = refl
+        go false p true q false r = refl
+        go false p true q true r = absurd (omega (arith, ltb-true a e r, fresh_changes p q s y, none))
+
+    pub untouched : u' ≡ h.used → AssignEnsures h.set st a e v (Ok (record { answer = 0; head = h.set })) st
+    untouched same =
+        same_set _ h.set st _ passes tt (λ s x. let z = none s x in (ap number (sym z), assigned_none s a e v z, flag_stays s x z))
+      where
+        none : (s : Positions) → Represents h.set st s → changed_count s a e v ≡ 0
+        none s x = none_needed s a e v (omega (arith, need_is s x))
 
     module _ (d : Changed ℕ RangeBitset) (st' : List ℕ) (changes : AssignEnsures h.set st a e v (Ok d) st') (same_storage : length st' ≡ length st) where
       abbrev next : Memory
@@ -137,14 +166,14 @@ module _ (h : Ledger) (st j : List ℕ) (a e : ℕ) (v : Bool) where
       unfolding set_of
       journal_next m x =
           rw (journal_added m.opened m.standing a e v, ← x.journal)
-          (writes.written_is passes (set_of m) x.set (few (set_of m) x.set))
+          (w.writes.written_is passes (set_of m) x.set (few (set_of m) x.set))
 
       holds_next : (m : Machine) → Holds before m → Holds next (next_of m (range a e v))
       holds_next m x =
           record {
             reachable = rw (goes m x) at (reachable_step m (range a e v) x.reachable);
             lent = lent_again h (moved d.head u') (length st) (length j) (length st') (length j') st' (assigned (set_of m) a e v) enough
-                changes.same_words (set_next m x) refl room same_storage same_journal;
+                changes.same_words (set_next m x) refl room same_storage w.same_journal;
             capacity = ap (λ (n : ℕ). 64 * n) changes.same_words ∙ x.capacity;
             journal_length = x.journal_length;
             in_use = in_use_next m x;
@@ -159,7 +188,7 @@ module _ (h : Ledger) (st j : List ℕ) (a e : ℕ) (v : Bool) where
       pub recorded : CallEnsures (range a e v) before (number d.answer) next
       recorded =
           record {
-            refuses = λ z. absurd (z (call_passes lent end_within));
+            refuses = λ z. absurd (z (call_passes w.lent w.end_within));
             only_6 = λ z. inl (changes.accepts passes);
             exactly_6 = λ z s x.
                 accepted_refused (number d.answer) (changes.accepts passes)
@@ -170,35 +199,8 @@ module _ (h : Ledger) (st j : List ℕ) (a e : ℕ) (v : Bool) where
             same_limit = refl;
             used_most = λ z. room;
             storage_kept = past_same _ _ changes.same_words changes.storage_kept;
-            journal_kept = writes.others;
+            journal_kept = w.writes.others;
             answers = λ m x. rw (goes m x) (changes.answers passes (set_of m) x.set);
             holds = λ m x. rw (goes m x) (holds_next m x);
             flag = flag_next;
           }
-
-    -- nothing changes, so that no number is written and the set need not be assigned
-
-    fresh_changes : h.set.allocated ≡ false → v ≡ true → (s : Positions) → Represents h.set st s → changed_count s a e v ≡ e - a
-    unfolding changed_count
-    fresh_changes p q s x = count_all (lacking s v) a e (λ i u w. ap₂ differ (x.fresh p i (omega (arith, end_within))) q)
-
-    flag_stays : (s : Positions) → Represents h.set st s → changed_count s a e v ≡ 0 → h.set.allocated ≡ (h.set.allocated || (v && ltb a e))
-    flag_stays s x none = go h.set.allocated refl v refl (ltb a e) refl
-      where
-        go : (b : Bool) → h.set.allocated ≡ b → (w : Bool) → v ≡ w → (l : Bool) → ltb a e ≡ l → b ≡ (b || (w && l))
-        go true p w q l r = refl
-        go false p false q l r = refl
-        go false p true q false r = refl
-        go false p true q true r = absurd (omega (arith, ltb-true a e r, fresh_changes p q s x, none))
-
-    pub untouched : u' ≡ h.used → CallEnsures (range a e v) before (number 0) (memory h st j')
-    untouched same = subst (λ (n : ℕ). CallEnsures (range a e v) before (number 0) (memory (moved h.set n) st j')) same (recorded unassigned st left refl)
-      where
-        unassigned : Changed ℕ RangeBitset
-        unassigned = record { answer = 0; head = h.set }
-
-        none : (s : Positions) → Represents h.set st s → changed_count s a e v ≡ 0
-        none s x = none_needed s a e v (omega (arith, need_is s x))
-
-        left : AssignEnsures h.set st a e v (Ok unassigned) st
-        left = same_set _ h.set st _ passes tt (λ s x. (ap number (sym (none s x)), assigned_none s a e v (none s x), flag_stays s x (none s x)))

@@ -245,14 +245,15 @@ impl Ledger {
             return Err(Refusal::JournalFull);
         }
         let used = Self::write_call(journal, self.used, runs, most);
-        if used == self.used {
-            // nothing changes: the call does not stand, and the set is as it would be
-            return Ok(Changed {
+        // a call that changes nothing does not stand, and the set is as it would be
+        let done = if used == self.used {
+            Changed {
                 answer: 0,
-                head: self,
-            });
-        }
-        let done = self.set.assign(storage, start, end, value)?;
+                head: self.set,
+            }
+        } else {
+            self.set.assign(storage, start, end, value)?
+        };
         Ok(Changed {
             answer: done.answer,
             head: Ledger {
