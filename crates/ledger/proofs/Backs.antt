@@ -2,15 +2,18 @@
 -- position. Assumes nothing.
 use Rattle.ledger.proofs.Kit.{◌≡◌, refl, sym, ap, ◌∙◌, subst, inl, inr, Bool, List, [], ◌∷◌, ℕ, ◌≤◌, ◌<◌, arith, get_or, dec_lt}
 use Rattle.positions.specs.Positions.{Positions, changed_count}
-use Rattle.positions.specs.Replies.{number, Accepted}
+use Rattle.positions.specs.Replies.{Reply, number, Accepted}
 use Rattle.positions.proofs.Assigned.{changed_differ}
 use Rattle.positions.proofs.Counts.{count_same}
 use Rattle.range_bitset.specs.Represents.{Represents, capacity_of}
 use Rattle.range_bitset.proofs.AgreeingSets.{represented_one}
-use Rattle.ledger.specs.Machine.{Machine, Standing, range, held, set_of, standing_call, with_standing, StandAll, step}
-use Rattle.ledger.specs.Memory.{Holds}
-use Rattle.ledger.specs.Back.{ChangesNone, differing, ChangesBack, BackChanges}
+use Rattle.ledger.specs.Machine.{Machine, Standing, Call, range, back, held, set_of, standing_call, with_standing, StandAll, step, after}
+use Rattle.ledger.specs.Memory.{Memory, Holds}
+use Rattle.ledger.specs.Entries.{CallEnsures}
+use Rattle.ledger.specs.History.{Begun, Chain}
+use Rattle.ledger.specs.Back.{IdleLeavesAll, differing, TakesSome, BackTakesSome}
 use Rattle.ledger.proofs.Machines.{need_none, step_range, step_none, step_back}
+use Rattle.ledger.proofs.Histories.{begun, chain_holds}
 
 -- ---- a call that changes no position
 
@@ -22,8 +25,8 @@ module _ (m : Machine) (a e : ℕ) (v : Bool) (l : e ≤ m.capacity) (none : cha
       step_range m a e v l (omega (arith, need_none (set_of m) a e v none))
       ∙ rw none
 
-pub changes_none : ChangesNone
-changes_none before next m r a e v q k l none =
+pub idle_leaves_all : IdleLeavesAll
+idle_leaves_all before next m r a e v q k l none =
     record {
       answers = rw (step_idle m a e v l none) at (k.answers m q);
       holds = stays;
@@ -50,11 +53,11 @@ unfolding differing standing_call
 held_differ o c cs x k =
     changed_differ (held o cs) c.start c.end c.value 0 x (omega arith) k.0.within ∙ sym (ap (λ (y : Standing). y.changed) k.0.as_made)
 
-pub back_changes : BackChanges
+pub back_takes_some : BackTakesSome
 unfolding set_of differing
-back_changes before next m r q k ok = by m.standing refl
+back_takes_some before next m r q k ok = by m.standing refl
   where
-    by : (l : List Standing) → m.standing ≡ l → ChangesBack before r next
+    by : (l : List Standing) → m.standing ≡ l → TakesSome before r next
     by [] e = absurd (subst Accepted (k.answers m q ∙ ap (λ (s : _). s.answer) (step_none m e)) ok)
     by (c ∷ cs) e =
         record {
@@ -77,3 +80,9 @@ back_changes before next m r q k ok = by m.standing refl
 
         is : (t : Positions) → Represents next.head.set next.storage t → (i : ℕ) → i < capacity_of before.head.set → t i ≡ held m.opened cs i
         is t y i l = represented_one next.head.set next.storage t (held m.opened cs) y after.set i (omega (arith, k.same_words))
+
+-- so it is after every list of calls from what new or open has just given
+pub back_takes_some_after : (start end next : Memory) (m : Machine) (cs : List Call) (rs : List Reply) (r : Reply)
+    → Begun start m → Chain start cs rs end → CallEnsures back end r next → Accepted r → TakesSome end r next
+back_takes_some_after start end next m cs rs r b ks k ok =
+    back_takes_some end next (after m cs).last r (chain_holds start end m cs rs (begun start m b) ks) k ok

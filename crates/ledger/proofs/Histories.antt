@@ -70,7 +70,7 @@ chain_answers x z m cs rs h (call {y = y} {c = c} {cs = ds} {rs = qs} s t) =
     rw (s.answers m h, chain_answers y z (step m c).next ds qs (s.holds m h) t)
 
 -- and the memory holds the machine's state
-chain_holds : (x z : Memory) (m : Machine) (cs : List Call) (rs : List Reply) → Holds x m → Chain x cs rs z → Holds z (after m cs).last
+pub chain_holds : (x z : Memory) (m : Machine) (cs : List Call) (rs : List Reply) → Holds x m → Chain x cs rs z → Holds z (after m cs).last
 unfolding after
 chain_holds x z m cs rs h no_call = h
 chain_holds x z m cs rs h (call {y = y} {c = c} {cs = ds} {rs = qs} s t) = chain_holds y z (step m c).next ds qs (s.holds m h) t

@@ -17,8 +17,8 @@ pub record LeavesAll (before : Memory) (m : Machine) (r : Reply) (next : Memory)
   pub in_use : next.head.used ≡ before.head.used
   pub journal : (i : ℕ) → slice_index next.journal i ≡ slice_index before.journal i
 
-abbrev pub ChangesNone : Type 0
-ChangesNone =
+abbrev pub IdleLeavesAll : Type 0
+IdleLeavesAll =
     (before next : Memory) (m : Machine) (r : Reply) (a e : ℕ) (v : Bool) → Holds before m → CallEnsures (range a e v) before r next
     → e ≤ m.capacity → changed_count (set_of m) a e v ≡ 0 → LeavesAll before m r next
 
@@ -29,7 +29,7 @@ unfoldable pub differing : Positions → Positions → ℕ → ℕ
 differing s t c = count (λ i. differ (s i) (t i)) 0 c
 
 -- it answers at least 1, and between the set that the memory represents before and the one afterwards just so many positions differ
-pub record ChangesBack (before : Memory) (r : Reply) (next : Memory) : Type 0 where
+pub record TakesSome (before : Memory) (r : Reply) (next : Memory) : Type 0 where
   pub changed : ℕ
   pub some : 1 ≤ changed
   pub answers : r ≡ number changed
@@ -37,7 +37,7 @@ pub record ChangesBack (before : Memory) (r : Reply) (next : Memory) : Type 0 wh
       → differing s t (capacity_of before.head.set) ≡ changed
 
 -- every accepted take-back on a sound ledger does
-abbrev pub BackChanges : Type 0
-BackChanges =
+abbrev pub BackTakesSome : Type 0
+BackTakesSome =
     (before next : Memory) (m : Machine) (r : Reply) → Holds before m → CallEnsures back before r next → Accepted r
-    → ChangesBack before r next
+    → TakesSome before r next
