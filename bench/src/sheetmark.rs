@@ -100,6 +100,9 @@ impl Ledger {
             self.journal.push(from as u32);
             runs += 1;
         }
+        if runs == 0 {
+            return Answer::Number(0); // nothing changes: it does not stand
+        }
         if self.journal.len() + 1 > self.limit {
             self.journal.truncate(used);
             return Answer::Refused(6);
