@@ -135,16 +135,16 @@ static double search(klado_set set) {
 
 /* Calls that change nothing: the search alone, the call at U = J and with the whole journal free; then calls refused 6 at U = J. */
 static void idle_row(size_t fill, size_t span, long calls, long rounds) {
-    klado_ledger free = filled(fill), full = free;
+    klado_ledger roomy = filled(fill), full = roomy;
     full.journal = 0;
     double least[4] = {1e30, 1e30, 1e30, 1e30};
     for (long r = 0; r < rounds; r++) {
         double spent[4] = {0, 0, 0, 0};
         for (long b = 0; b < calls / BATCH; b++) {
-            stretches(free.set, span);
-            spent[0] += search(free.set);
+            stretches(roomy.set, span);
+            spent[0] += search(roomy.set);
             spent[1] += idle(full, true, 0);
-            spent[2] += idle(free, true, 0);
+            spent[2] += idle(roomy, true, 0);
             spent[3] += idle(full, false, 6);
         }
         for (int k = 0; k < 4; k++)
@@ -162,7 +162,8 @@ int main(int count, char **words) {
     row(200, 200, calls, rounds);
     row(200, 5000, calls, rounds);
     row(5000, 5000, calls, rounds);
-    puts("\n| filled by | range up to | the search alone | nothing changed, U = J | nothing changed, J free | refused 6, U = J |\n|---|---|---|---|---|---|");
+    puts("\n| filled by | range up to | the search alone | nothing changed, U = J | nothing changed, J free | refused 6, U = J |");
+    puts("|---|---|---|---|---|---|");
     idle_row(200, 1, calls, rounds);
     idle_row(200, 199, calls, rounds);
     idle_row(5000, 4999, calls, rounds);
