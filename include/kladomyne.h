@@ -21,8 +21,9 @@
  * positions alone, in bytes that mean the same on every machine: klado_list_write makes one, klado_ledger_open reads it.
  *
  * What the caller owes. Nothing here can be checked by the library:
- *   - `storage` points to `storage_len` numbers and is aligned to 8 bytes; `journal` points to `journal_len` numbers and is
- *     aligned to 4 bytes; `file` points to `file_len` bytes. None of the three is null, also where its length is 0.
+ *   - `storage` points to `storage_len` numbers and is aligned to 8 bytes, and so do `first_storage`, `second_storage`, `third` and
+ *     `scratch` with their lengths; `journal` points to `journal_len` numbers and is aligned to 4 bytes; `file` points to `file_len`
+ *     bytes. None of them is null, also where its length is 0.
  *   - what is lent through a pointer not to `const` overlaps nothing else that is lent to the call, and nothing else reads or
  *     writes it during the call; what is lent through a pointer to `const` is not written during the call.
  *   - what is lent may hold anything, but must be readable and initialised in C's sense: zero it or make it static.
@@ -31,8 +32,9 @@
  * stays in the numbers that were lent. What the calls promise below of their answer is promised where head and storage are a
  * pair that these calls left behind: the head is the one that the last call gave, and the storage has not been written since,
  * nor, for a ledger, the journal's first U numbers. On any other memory an accepted call's answer, its head and the numbers
- * that it may write may be anything, but that a ledger's W and J stay, its U is at most J, and a list's length is at most the
- * buffer's; and all that is said of refusals and of the other numbers still holds. (But for 6 and 9, where head and storage
+ * that it may write may be anything, but that a ledger's W and J stay, its U is at most J, a list's length is at most the
+ * buffer's, and a combined set's head has the first set's W and its flag; and all that is said of refusals and of the other numbers
+ * still holds. (But for 6 and 9, where head and storage
  * are not sound: there is no set to count runs by. 6 is never answered where as many runs fit as the range's n positions can
  * have, (n + 1) / 2, nor for a range of none; else it may be. 9 is answered where the buffer is under 11 bytes; never where it
  * has KLADO_LIST_MOST; between these it may be.) What klado_set_audit, klado_ledger_new and klado_ledger_open promise is
@@ -42,7 +44,8 @@
  *   1  new and open alone: the capacity is not 64 * W for a W that is a power of two from 1 to 4096, or J is above 16,384.
  *   2  the head is not one: its word count is no such W, it counts more positions than the capacity, J is above 16,384, or
  *      U is above J.
- *   3  the storage is shorter than the set needs (KLADO_SET_STORAGE), or the journal is shorter than J.
+ *   3  the storage is shorter than the set needs (KLADO_SET_STORAGE), or the journal is shorter than J; of a combination, the
+ *      first, the second or the third storage, and the third is measured by the first set.
  *   4  an end above the capacity, or an index at or above it.
  *   5  take-back alone: no call stands, U is 0.
  *   6  marking and clearing alone: the call needs more journal numbers than are free, of J - U: 1 + 2 * (runs that it changes), or
@@ -51,14 +54,16 @@
  *   8  open alone: a run of the file is empty, ends above the capacity, or does not start above the end of the run before it.
  *      `run` is the index of the first such run, counted from 0.
  *   9  klado_list_write alone: the buffer is shorter than the list, 11 + 8 * (the set's runs).
+ *  10  combinations alone: the two sets' capacities differ.
+ *  11  combinations alone: the scratch has less than W numbers.
  * Open checks 7 (at least 11 bytes, mark, version), then 1, then 7 (11 + 8 * its run count), then 3, then 8.
  * A call that is refused writes nothing. Its other numbers are 0 (but for `run` with 8), and the head in its answer is the head
- * that it was given (for new and open a head of zeros, which every call refuses with 2). So a head can be replaced by the
- * answer's in every case.
+ * that it was given (for new, open and combinations a head of zeros, which every call refuses with 2). So a head can be replaced by
+ * the answer's in every case, but that of a combination's third storage, which is no set's until the call is accepted.
  *
  * A call that is accepted writes only the first KLADO_SET_STORAGE numbers of the storage, journal numbers from the old U up
- * to the new one, and the buffer's bytes up to the length that klado_list_write answers; and only through pointers that are
- * not to `const`.
+ * to the new one, the buffer's bytes up to the length that klado_list_write answers, and of a combination the first KLADO_SET_STORAGE
+ * numbers of the third storage and the scratch's first W; and only through pointers that are not to `const`.
  */
 #ifndef KLADOMYNE_H
 #define KLADOMYNE_H
@@ -152,6 +157,23 @@ klado_found klado_set_select(klado_set head, const uint64_t *storage, size_t sto
 
 /* Takes every position out, and answers how many there were. `allocated` stays as it is. Refused: 2, 3. */
 klado_set_answer klado_set_clear(klado_set head, uint64_t *storage, size_t storage_len);
+
+/* Both, either, without: from two sets of one capacity, in a third storage, the set of the positions that both have, that either has,
+ * or that the first has and the second has not. `head` is the third's, with its population, and `allocated` set also where it has no
+ * position; `value` is 0. The third storage may hold anything before, and is sound afterwards; the two sets and their storages are only
+ * read. They may be one set lent twice, and ledgers' sets too (`head.set`, with the ledger's storage). `scratch` is W numbers for the call's own
+ * use; what they hold afterwards is not said. The work grows with the words that the two sets leave neither all clear nor all set, and that
+ * neither settles alone (a clear word settles both, a set one either); blocks and words that are settled are not looked into. Refused: 2 (either head),
+ * 3, 10, 11. */
+klado_set_answer klado_set_both(klado_set first, const uint64_t *first_storage, size_t first_len, klado_set second,
+                                const uint64_t *second_storage, size_t second_len, uint64_t *third, size_t third_len,
+                                uint64_t *scratch, size_t scratch_len);
+klado_set_answer klado_set_either(klado_set first, const uint64_t *first_storage, size_t first_len, klado_set second,
+                                  const uint64_t *second_storage, size_t second_len, uint64_t *third, size_t third_len,
+                                  uint64_t *scratch, size_t scratch_len);
+klado_set_answer klado_set_without(klado_set first, const uint64_t *first_storage, size_t first_len, klado_set second,
+                                   const uint64_t *second_storage, size_t second_len, uint64_t *third, size_t third_len,
+                                   uint64_t *scratch, size_t scratch_len);
 
 /* The audit: answers 1 where every number that the calls read agrees with the others (head and storage are then sound), else 0.
  * What the calls leave behind is sound. Numbers that no call reads, such as the words of an empty set, may hold anything. It cannot

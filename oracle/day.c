@@ -41,6 +41,29 @@ int main(void) {
     expect("assign 0..8193, refused", klado_set_assign(one.head, sheets, room, 0, 8193, true).refused, 4);
     expect("a short slice, refused", klado_set_clear(one.head, sheets, room - 1).refused, 3);
     expect("len", klado_set_len(one.head).value, 127);
+    /* scanned are 4032..4100 and 4101..4160; placed are 4090..4120 and 8000..8010: both have 10 and 19, either 127 + 40 - 29 */
+    static uint64_t placed[KLADO_SET_STORAGE(8192)], made_of[KLADO_SET_STORAGE(8192)], scratch[8192 / 64];
+    klado_set_answer two = klado_set_assign(klado_set_new(8192).head, placed, room, 4090, 4120, true);
+    two = klado_set_assign(two.head, placed, room, 8000, 8010, true);
+    klado_set_answer third =
+        klado_set_both(one.head, sheets, room, two.head, placed, room, made_of, room, scratch, sizeof scratch / 8);
+    expect("both", third.head.len, 29);
+    expect("both, 4100", klado_set_get(third.head, made_of, room, 4100).value, 0);
+    third = klado_set_either(one.head, sheets, room, two.head, placed, room, made_of, room, scratch, sizeof scratch / 8);
+    expect("either", third.head.len, 138);
+    expect("either, last", klado_set_select(third.head, made_of, room, 137).at, 8009);
+    third = klado_set_without(one.head, sheets, room, two.head, placed, room, made_of, room, scratch, sizeof scratch / 8);
+    expect("without", third.head.len, 98);
+    expect("without, next after 4089", klado_set_next_one(third.head, made_of, room, 4090, 8192).at, 4120);
+    expect("without, audit", klado_set_audit(third.head, made_of, room).value, 1);
+    third = klado_set_without(one.head, sheets, room, one.head, sheets, room, made_of, room, scratch, sizeof scratch / 8);
+    expect("without itself", third.head.len, 0);
+    expect("without itself, allocated", third.head.allocated, 1);
+    klado_set other = klado_set_new(4096).head;
+    expect("other capacity, refused",
+           klado_set_both(one.head, sheets, room, other, placed, room, made_of, room, scratch, 0).refused, 10);
+    expect("short scratch, refused",
+           klado_set_both(one.head, sheets, room, two.head, placed, room, made_of, room, scratch, 127).refused, 11);
     expect("clear", klado_set_clear(one.head, sheets, room).value, 127);
     puts("day: every answer as expected");
     return 0;

@@ -4,8 +4,9 @@
 //! turn, ROUNDS times; each side's least time counts. The Rust is called as Rust calls it, inlined where the compiler
 //! likes; the port through C, with its refusal checks and its head in and out by value. Both sides must give the same sum of
 //! answers. The loop draws its random numbers as it goes, the same for both, so `loop alone` is in every figure: it is
-//! printed, and not taken off. The Rust has no select; its rows have a table of their own (select.rs).
+//! printed, and not taken off. The Rust has no select and no combinations; their rows have tables of their own (select.rs, combine.rs).
 
+mod combine;
 #[path = "../../oracle/src/original.rs"]
 mod original;
 #[path = "../../oracle/src/port.rs"]
@@ -62,6 +63,7 @@ impl Set for RangeBitset {
 struct Port {
     head: Head,
     storage: Vec<u64>,
+    scratch: Vec<u64>,
 }
 
 impl Port {
@@ -86,7 +88,7 @@ impl Set for Port {
     fn new(capacity: usize) -> Self {
         let made = unsafe { klado_set_new(capacity) };
         assert!(made.refused == 0);
-        Port { head: made.head, storage: vec![0; needed(capacity / 64)] }
+        Port { head: made.head, storage: vec![0; needed(capacity / 64)], scratch: vec![0; capacity / 64] }
     }
     fn assign(&mut self, start: usize, end: usize, value: bool) -> u32 {
         let (head, storage, len) = (self.head, self.storage.as_mut_ptr(), self.storage.len());
@@ -351,4 +353,5 @@ fn main() {
     let mean = (product / rows.len() as f64).exp();
     println!("geometric mean of the {} ratios {mean:.3}, the largest {worst:.3}; all sums agree", rows.len());
     select::table(calls, rounds).unwrap_or_else(differ);
+    combine::table(calls, rounds).unwrap_or_else(differ);
 }

@@ -35,6 +35,16 @@ uint64_t beside_select(const void *set, uint32_t n) {
     return roaring_bitmap_select(set, n, &at) ? at : UINT64_MAX;
 }
 
+/* Both, either, or the first without the second, by rule, in a new bitmap: how many positions it has. */
+uint64_t beside_combine(const void *first, const void *second, uint32_t rule) {
+    roaring_bitmap_t *made = rule == 0   ? roaring_bitmap_and(first, second)
+                             : rule == 1 ? roaring_bitmap_or(first, second)
+                                         : roaring_bitmap_andnot(first, second);
+    uint64_t population = roaring_bitmap_get_cardinality(made);
+    roaring_bitmap_free(made);
+    return population;
+}
+
 /* Its portable serialisation, for bench/list: a copy of the set with runs where they are shorter, the length, the bytes, and
  * the set of such bytes, or null. */
 void *beside_run_optimized(const void *set) {

@@ -1,6 +1,7 @@
 //! libroaring beside the two sets, through roaring.c.
 
 use crate::Set;
+use crate::combine::Combine;
 use std::ffi::c_void;
 
 unsafe extern "C" {
@@ -12,6 +13,7 @@ unsafe extern "C" {
     fn beside_count(set: *const c_void, start: u64, end: u64) -> u64;
     fn beside_next_one(set: *const c_void, start: u32) -> u64;
     fn beside_select(set: *const c_void, n: u32) -> u64;
+    fn beside_combine(first: *const c_void, second: *const c_void, rule: u32) -> u64;
 }
 
 pub struct Roaring(*mut c_void);
@@ -49,5 +51,12 @@ impl Set for Roaring {
     fn select(&self, n: usize) -> Option<usize> {
         let at = unsafe { beside_select(self.0, n as u32) };
         if at == u64::MAX { None } else { Some(at as usize) }
+    }
+}
+
+/// Into a new bitmap each time, which is freed again.
+impl Combine for Roaring {
+    fn combine(&self, other: &Self, _: &mut Self, rule: usize) -> u64 {
+        unsafe { beside_combine(self.0, other.0, rule as u32) }
     }
 }

@@ -1,21 +1,23 @@
-//! The trial of select in Rust, which reads the Rust's own fields: oracle/build puts it at the end of a copy of the Rust.
+//! The trials of select and of the combinations in Rust, which read the Rust's own fields: oracle/build puts them at the end of a copy of
+//! the Rust.
 
 use crate::Set;
+use crate::combine::Combine;
 
 macro_rules! count_work {
     ($counter:ident) => {};
 }
 
 #[allow(dead_code, unused_parens)]
-#[path = "../../target/oracle/with_select.rs"]
-mod with_select;
+#[path = "../../target/oracle/with_trials.rs"]
+mod with_trials;
 
 /// Apart from the Rust of the other rows, which stays as it is.
-pub struct Trial(with_select::RangeBitset);
+pub struct Trial(with_trials::RangeBitset);
 
 impl Set for Trial {
     fn new(capacity: usize) -> Self {
-        Trial(with_select::RangeBitset::new(capacity))
+        Trial(with_trials::RangeBitset::new(capacity))
     }
     fn assign(&mut self, start: usize, end: usize, value: bool) -> u32 {
         self.0.assign(start, end, value)
@@ -37,5 +39,11 @@ impl Set for Trial {
     }
     fn select(&self, n: usize) -> Option<usize> {
         self.0.select(n as u32)
+    }
+}
+
+impl Combine for Trial {
+    fn combine(&self, other: &Self, third: &mut Self, rule: usize) -> u64 {
+        self.0.combine(&other.0, &mut third.0, rule as u32) as u64
     }
 }

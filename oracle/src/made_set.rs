@@ -28,7 +28,7 @@ impl<'a> Made<'a> {
         self.has.len()
     }
 
-    fn assign(&mut self, start: usize, end: usize, value: bool) {
+    pub fn assign(&mut self, start: usize, end: usize, value: bool) {
         let (head, storage, len) = (self.head, self.storage.first(), self.storage.len());
         let answer = unsafe {
             if end == start + 1 {

@@ -56,7 +56,58 @@ unsafe extern "C" {
     pub fn klado_set_select(head: Head, storage: *const u64, len: usize, n: usize) -> Found;
     pub fn klado_set_clear(head: Head, storage: *mut u64, len: usize) -> SetAnswer;
     pub fn klado_set_audit(head: Head, storage: *const u64, len: usize) -> Answer;
+    pub fn klado_set_both(
+        first: Head,
+        first_storage: *const u64,
+        first_len: usize,
+        second: Head,
+        second_storage: *const u64,
+        second_len: usize,
+        third: *mut u64,
+        third_len: usize,
+        scratch: *mut u64,
+        scratch_len: usize,
+    ) -> SetAnswer;
+    pub fn klado_set_either(
+        first: Head,
+        first_storage: *const u64,
+        first_len: usize,
+        second: Head,
+        second_storage: *const u64,
+        second_len: usize,
+        third: *mut u64,
+        third_len: usize,
+        scratch: *mut u64,
+        scratch_len: usize,
+    ) -> SetAnswer;
+    pub fn klado_set_without(
+        first: Head,
+        first_storage: *const u64,
+        first_len: usize,
+        second: Head,
+        second_storage: *const u64,
+        second_len: usize,
+        third: *mut u64,
+        third_len: usize,
+        scratch: *mut u64,
+        scratch_len: usize,
+    ) -> SetAnswer;
 }
+
+/// One of the last three.
+#[allow(dead_code)]
+pub type Combine = unsafe extern "C" fn(
+    Head,
+    *const u64,
+    usize,
+    Head,
+    *const u64,
+    usize,
+    *mut u64,
+    usize,
+    *mut u64,
+    usize,
+) -> SetAnswer;
 
 /// How many numbers a set of `words` words needs.
 pub fn needed(words: usize) -> usize {

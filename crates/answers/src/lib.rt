@@ -26,6 +26,10 @@ pub enum Refusal {
     BadFile = 7,
     // The buffer is shorter than what is to be written.
     NoRoom = 9,
+    // The two sets' capacities differ.
+    OtherCapacity = 10,
+    // The scratch is shorter than the call needs.
+    ShortScratch = 11,
 }
 
 impl From<Refusal> for u8 {

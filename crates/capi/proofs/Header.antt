@@ -4,17 +4,19 @@
 use Rattle.capi.proofs.Kit.{◌≡◌, refl, ap, sym, ◌∙◌, ◌≢◌, Bool, true, false, cond, List, ℕ, length}
 use Rattle.positions.specs.Positions.{Positions}
 use Rattle.positions.specs.Replies.{Reply, number, refusal, refused}
-use Rattle.answers.specs.Refusals.{answer_in}
+use Rattle.answers.specs.Refusals.{answer_in, refused_by}
 use Rattle.range_bitset.specs.Answers.{Counted, of_counted, good_head, head_refusal, storage_refusal, range_refusal, point_refusal}
 use Rattle.range_bitset.specs.Entries.{Changes, of_head}
 use Rattle.range_bitset.specs.declared.RangeBitset.{RangeBitset}
+use Rattle.combine.specs.Rules.{Rule}
+use Rattle.combine.specs.Entry.{combine_refusal, CombineEnsures}
 use Rattle.capi_told.specs.declared.KladoSet.{KladoSet}
 use Rattle.capi_told.specs.declared.KladoSetAnswer.{KladoSetAnswer}
 use Rattle.capi_told.specs.declared.KladoAnswer.{KladoAnswer}
 use Rattle.capi_told.specs.declared.KladoFound.{KladoFound}
-use Rattle.capi_told.proofs.Numbers.{counted_refused, tested_refused, found_refused, counted_bare, tested_bare}
+use Rattle.capi_told.proofs.Numbers.{counted_refused, tested_refused, found_refused, counted_bare, tested_bare, made_refused, made_value, made_bare}
 use Rattle.capi_told.specs.Told.{set_of, head_of, with_head, told_counted}
-use Rattle.capi.specs.Exports.{CapacityTold, LenTold, GetTold, SetTold, AssignTold, CountTold, NextTold, SelectTold, ClearTold, AuditTold}
+use Rattle.capi.specs.Exports.{CapacityTold, LenTold, GetTold, SetTold, AssignTold, CountTold, NextTold, SelectTold, ClearTold, AuditTold, CombineTold}
 
 -- ---- the calls that ask: the refusal
 
@@ -89,3 +91,30 @@ pub clear_declines : (h : KladoSet) → (st : List ℕ) → (c : KladoSetAnswer)
     → Declines (storage_refusal (set_of h) (length st)) h st c st'
 clear_declines h st c st' t =
     declines _ h st _ _ _ _ _ _ st' t.promised _ (counted_refused (answer_in t.answer)) (counted_bare (answer_in t.answer)) c t.told
+
+-- ---- the combinations: the refusal k, and what a refused call leaves
+
+pub record Uncombined (k : ℕ) (third scratch : List ℕ) (c : KladoSetAnswer) (third' scratch' : List ℕ) : Type 0 where
+  pub number : c.refused ≡ k
+  pub value : c.value ≡ 0
+  pub head : k ≢ 0 → c.head ≡ record { words = 0; len = 0; allocated = false }
+  pub third_kept : k ≢ 0 → third' ≡ third
+  pub scratch_kept : k ≢ 0 → scratch' ≡ scratch
+
+pub combine_declines : (f : Rule) → (h : KladoSet) → (st : List ℕ) → (k : KladoSet) → (su third scratch : List ℕ) → (c : KladoSetAnswer)
+    → (third' scratch' : List ℕ) → CombineTold f h st k su third scratch c third' scratch'
+    → Uncombined (combine_refusal (set_of h) (set_of k) (length st) (length su) (length third) (length scratch)) third scratch c third' scratch'
+combine_declines f h st k su third scratch c third' scratch' t =
+    record {
+      number = ap (λ (x : KladoSetAnswer). x.refused) t.told ∙ made_refused t.answer ∙ p.refuses;
+      value = ap (λ (x : KladoSetAnswer). x.value) t.told ∙ made_value t.answer;
+      head = λ n. ap (λ (x : KladoSetAnswer). x.head) t.told ∙ made_bare t.answer (λ e. some n (sym (made_refused t.answer) ∙ e));
+      third_kept = λ n. (p.unchanged (some n)).0;
+      scratch_kept = λ n. (p.unchanged (some n)).1;
+    }
+  where
+    p : CombineEnsures f (set_of h) st (set_of k) su third scratch t.answer third' scratch'
+    p = t.promised
+
+    some : combine_refusal (set_of h) (set_of k) (length st) (length su) (length third) (length scratch) ≢ 0 → refused_by t.answer ≢ 0
+    some n e = n (sym p.refuses ∙ e)

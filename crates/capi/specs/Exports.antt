@@ -1,14 +1,16 @@
--- The promise of each of the set's exports: its answer is C's numbers for an answer that the entry of range_bitset, or of audit,
+-- The promise of each of the set's exports: its answer is C's numbers for an answer that the entry of range_bitset, of audit or of combine
 -- promises. Assumes nothing.
 use Rattle.std.specs.Prelude.{Bool, List, ℕ}
 use Rattle.range_bitset.specs.Entries.{CapacityEnsures, LenEnsures, GetEnsures, CountEnsures, NextEnsures, SelectEnsures, AssignEnsures, SetEnsures, ClearEnsures}
 use Rattle.audit.specs.Entry.{AuditEnsures}
-use Rattle.range_bitset.specs.Answers.{Counted, Tested, Found, Assigned, Updated}
+use Rattle.combine.specs.Rules.{Rule}
+use Rattle.combine.specs.Entry.{CombineEnsures}
+use Rattle.range_bitset.specs.Answers.{Made, Counted, Tested, Found, Assigned, Updated}
 use Rattle.capi_told.specs.declared.KladoSet.{KladoSet}
 use Rattle.capi_told.specs.declared.KladoSetAnswer.{KladoSetAnswer}
 use Rattle.capi_told.specs.declared.KladoAnswer.{KladoAnswer}
 use Rattle.capi_told.specs.declared.KladoFound.{KladoFound}
-use Rattle.capi_told.specs.Told.{Told, set_of, told_counted, told_tested, told_found, told_assigned, told_updated}
+use Rattle.capi_told.specs.Told.{Told, set_of, told_made, told_counted, told_tested, told_found, told_assigned, told_updated}
 
 abbrev pub CapacityTold : KladoSet → KladoAnswer → Type 0
 CapacityTold h c = Told Counted KladoAnswer (CapacityEnsures (set_of h)) told_counted c
@@ -39,3 +41,7 @@ ClearTold h st c st' = Told Assigned KladoSetAnswer (λ r. ClearEnsures (set_of 
 
 abbrev pub AuditTold : KladoSet → List ℕ → KladoAnswer → Type 0
 AuditTold h st c = Told Tested KladoAnswer (AuditEnsures (set_of h) st) told_tested c
+
+abbrev pub CombineTold : Rule → KladoSet → List ℕ → KladoSet → List ℕ → List ℕ → List ℕ → KladoSetAnswer → List ℕ → List ℕ → Type 0
+CombineTold f h st k su third scratch c third' scratch' =
+    Told Made KladoSetAnswer (λ r. CombineEnsures f (set_of h) st (set_of k) su third scratch r third' scratch') told_made c

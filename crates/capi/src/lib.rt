@@ -10,9 +10,11 @@
 ghost use Rattle.std.specs.Prelude.{◌≡◌, true, false};
 ghost use Rattle.range_bitset.specs.Entries.{new_of};
 ghost use Rattle.capi_told.specs.Told.{told_made};
-ghost use Rattle.capi.specs.Exports.{CapacityTold, LenTold, GetTold, SetTold, AssignTold, CountTold, NextTold, SelectTold, ClearTold, AuditTold};
+ghost use Rattle.combine.specs.Rules.{both, either, without};
+ghost use Rattle.capi.specs.Exports.{CapacityTold, LenTold, GetTold, SetTold, AssignTold, CountTold, NextTold, SelectTold, ClearTold, AuditTold, CombineTold};
 
 use answers::Changed;
+use combine::{Both, Either, Without, combine};
 use capi_told::{KladoAnswer, KladoFound, KladoSet, KladoSetAnswer};
 use range_bitset::RangeBitset;
 
@@ -132,4 +134,70 @@ pub extern "C" fn klado_set_audit(head: KladoSet, storage: &[u64]) -> KladoAnswe
     ensures { AuditTold head storage.now result }
 {
     audit::audit(head.into(), storage).into()
+}
+
+#[unsafe(no_mangle)]
+pub extern "C" fn klado_set_both(
+    first: KladoSet,
+    first_storage: &[u64],
+    second: KladoSet,
+    second_storage: &[u64],
+    third: &mut [u64],
+    scratch: &mut [u64],
+) -> KladoSetAnswer
+    ensures { CombineTold both first first_storage.now second second_storage.now third.old scratch.old result third.new scratch.new }
+{
+    combine::<Both>(
+        first.into(),
+        first_storage,
+        second.into(),
+        second_storage,
+        third,
+        scratch,
+    )
+    .into()
+}
+
+#[unsafe(no_mangle)]
+pub extern "C" fn klado_set_either(
+    first: KladoSet,
+    first_storage: &[u64],
+    second: KladoSet,
+    second_storage: &[u64],
+    third: &mut [u64],
+    scratch: &mut [u64],
+) -> KladoSetAnswer
+    ensures { CombineTold either first first_storage.now second second_storage.now third.old scratch.old result third.new scratch.new }
+{
+    combine::<Either>(
+        first.into(),
+        first_storage,
+        second.into(),
+        second_storage,
+        third,
+        scratch,
+    )
+    .into()
+}
+
+#[unsafe(no_mangle)]
+pub extern "C" fn klado_set_without(
+    first: KladoSet,
+    first_storage: &[u64],
+    second: KladoSet,
+    second_storage: &[u64],
+    third: &mut [u64],
+    scratch: &mut [u64],
+) -> KladoSetAnswer
+    ensures { CombineTold without first first_storage.now second second_storage.now third.old scratch.old result third.new scratch.new }
+{
+    combine::<Without>(
+        first.into(),
+        first_storage,
+        second.into(),
+        second_storage,
+        third,
+        scratch,
+    )
+    .into()
 }

@@ -2,6 +2,7 @@
 use Rattle.std.proofs.Common.{◌≡◌, refl, ◌≢◌, Bool, true, false, ◌≤◌, arith, Some, None, Ok, Err}
 use Rattle.positions.specs.Positions.{one}
 use Rattle.positions.specs.Replies.{refused}
+use Rattle.answers.specs.Refusals.{refused_by}
 use Rattle.range_bitset.specs.Answers.{Made, Counted, Tested, Found, of_counted, of_tested, of_found}
 use Rattle.capi_told.specs.Told.{told_made, told_counted, told_tested, told_found}
 
@@ -17,6 +18,10 @@ pub found_refused : (a : Found) → (told_found a).refused ≡ refused (of_found
 found_refused (Ok (Some i)) = refl
 found_refused (Ok None) = refl
 found_refused (Err k) = refl
+
+pub made_refused : (a : Made) → (told_made a).refused ≡ refused_by a
+made_refused (Ok h) = refl
+made_refused (Err k) = refl
 
 pub counted_bare : (a : Counted) → (told_counted a).refused ≢ 0 → (told_counted a).value ≡ 0
 counted_bare (Ok n) z = absurd (z refl)
@@ -46,7 +51,7 @@ found_none (Ok (Some i)) z = absurd (omega arith)
 found_none (Ok None) z = refl
 found_none (Err k) z = refl
 
--- ---- a new set
+-- ---- a set that is made
 
 pub made_value : (a : Made) → (told_made a).value ≡ 0
 made_value (Ok h) = refl

@@ -10,8 +10,8 @@ use Rattle.std.proofs.Common.{Ok, Err}
 use Rattle.positions.proofs.Bools.{and_left, and_right}
 use Rattle.answers.specs.Refusals.{number_of}
 use Rattle.answers.specs.declared.Refusal.{Refusal}
-use Rattle.answers.specs.declared.Refusal.TheVariants.{Size, Head, Short, Outside, NoCall, JournalFull, BadFile, NoRoom}
-use Rattle.answers.proofs.Numbers.{number_some}
+use Rattle.answers.specs.declared.Refusal.TheVariants.{Size}
+use Rattle.answers.proofs.Numbers.{number_short, number_some}
 use Rattle.range_bitset.specs.Entries.{new_of as set_new}
 use Rattle.range_bitset.specs.declared.RangeBitset.{RangeBitset}
 use Rattle.range_bitset.proofs.AcceptedHeads.{fresh_head, fresh_represents}
@@ -110,17 +110,6 @@ module _ (capacity j n k : ℕ) (h : Ledger) (e : Ok h ≡ fresh_of capacity j) 
       go true x y = x
       go false x y = absurd (omega arith)
 
--- 3 is the number of one refusal alone
-pub three : (k : Refusal) → number_of k ≡ 3 → k ≡ Short
-three Short e = refl
-three Size e = absurd (omega arith)
-three Head e = absurd (omega arith)
-three Outside e = absurd (omega arith)
-three NoCall e = absurd (omega arith)
-three JournalFull e = absurd (omega arith)
-three BadFile e = absurd (omega arith)
-three NoRoom e = absurd (omega arith)
-
 -- ---- `new`
 
 module _ (capacity j n k : ℕ) where
@@ -134,7 +123,7 @@ module _ (capacity j n k : ℕ) where
     new_lent r q =
         let m = fresh_made capacity j h e in
         let d = lent_less capacity j n k h e r q in
-        rw (three r d.1, m.0, le-leb j 16384 m.1, d.0)
+        rw (number_short r d.1, m.0, le-leb j 16384 m.1, d.0)
 
     pub new_done : lent_refusal h n k ≡ 0 → Ok h ≡ new_of capacity j n k
     unfolding new_of

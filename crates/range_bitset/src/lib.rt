@@ -128,7 +128,20 @@ pub(crate) struct ViewMut<'a> {
     ghost room: { Room words storage.now },
 }
 
-// ---- what the audit is shown
+// ---- what is shown to whoever reads or writes the numbers themselves
+
+// Where the parts of the storage of a set of `words` data words begin. The word `k` itself is number `k`; the masks and the population of a block
+// have one number for each block further on.
+#[derive(Clone, Copy, Debug, PartialEq, Eq)]
+pub struct Parts {
+    pub words: usize,
+    pub blocks: usize,
+    pub nonzero: usize,
+    pub full: usize,
+    pub population: usize,
+    pub top_nonzero: usize,
+    pub top_full: usize,
+}
 
 // The blocks that hold any set bit, those that are entirely set, and those that there are.
 #[derive(Clone, Copy, Debug, PartialEq, Eq)]

@@ -1,12 +1,29 @@
-// Not the Rust's: what the storage says, on any memory, for the audit. Assumes nothing.
+// Not the Rust's: where the numbers of a set stand, and what the storage says, on any memory, for crates above. Assumes nothing.
 ghost use Rattle.std.specs.Prelude.{◌≡◌, ◌<◌};
 ghost use Rattle.range_bitset.specs.Layout.{blocks};
-ghost use Rattle.range_bitset.specs.Shown.{mixed_of, TopsEnsures, BlockEnsures};
+ghost use Rattle.range_bitset.specs.Shown.{mixed_of, PartsEnsures, TopsEnsures, BlockEnsures};
 
-use crate::{Block, MixedBlock, RangeBitset, State, Tops, View, span};
+use crate::{Block, MixedBlock, Parts, RangeBitset, State, Tops, View, span};
 use answers::Refusal;
 
 impl RangeBitset {
+    pub fn parts(self) -> Result<Parts, Refusal>
+        ensures { PartsEnsures self result }
+    {
+        self.check_head()?;
+        let words = self.words as usize;
+        let blocks = Self::blocks(words);
+        Ok(Parts {
+            words,
+            blocks,
+            nonzero: words,
+            full: words + blocks,
+            population: words + 2 * blocks,
+            top_nonzero: words + 3 * blocks,
+            top_full: words + 3 * blocks + 1,
+        })
+    }
+
     pub fn top_masks(self, storage: &[u64]) -> Result<Tops, Refusal>
         ensures { TopsEnsures self storage.now result }
     {
