@@ -1,12 +1,13 @@
 -- A rule on two words, and what it makes of the masks of two sides, bit by bit. Assumes nothing.
-use Rattle.combine.proofs.Kit.{◌≡◌, refl, ap, ap₂, sym, ◌∙◌, ◌≢◌, Bool, true, false, not, ◌&&◌, ◌||◌, and-false, ℕ, ◌*◌, ◌-◌, ◌^◌, ◌%◌, ◌<◌, arith, dec_lt, eq-eqb, ne_eqb, not-false, not-true, bit_and, bit_or, or_lt, and_le_l, lt_of_le_of_lt}
-use Rattle.positions.proofs.Bools.{same₂, same₃, same₄}
+use Rattle.combine.proofs.Kit.{◌≡◌, refl, ap, ap₂, sym, ◌∙◌, ◌≢◌, Bool, true, false, not, ◌&&◌, ◌||◌, and-false, ℕ, ◌*◌, ◌-◌, ◌^◌, ◌%◌, ◌<◌, arith, dec_lt, eq-eqb, ne_eqb, not-false, not-true, bit_and, bit_or, or_lt, and_le_l, lt_of_le_of_lt, cond, true≢false, lt-ltb}
+use Rattle.positions.specs.Positions.{differ}
+use Rattle.positions.proofs.Bools.{and_right, same₁, same₂, same₃, same₄}
 use Rattle.bits.specs.Bit.{bit}
-use Rattle.bits.proofs.Bits.{bit_of_and, bit_of_or, bit_not, bit_beyond}
+use Rattle.bits.proofs.Bits.{bit_of_and, bit_of_or, bit_not, bit_beyond, bit_ones, bit_zero}
 use Rattle.bits.proofs.Masks.{bit_without, test_shifted}
 use Rattle.bits.proofs.Words.{mask_lt, mask_at, mask_of}
 use Rattle.combine.specs.Rules.{Rule, both, either, without, on_words}
-use Rattle.combine.specs.Inner.{settled_alone, unsettled_at, full_at, Settles, Splits}
+use Rattle.combine.specs.Inner.{first_settles, second_settles, settled_alone, unsettled_by, unsettled_at, full_at, Settles, Splits}
 use Rattle.combine.specs.declared.rule.Masks.{Masks}
 
 -- ---- a bit that the code tests
@@ -68,6 +69,62 @@ module _ (x y : Masks) where
       (λ i l.
       bit_of_or _ _ i ∙ ap (λ (z : Bool). z || bit y.full i) (bit_not 64 x.nonzero i h l)
       ∙ same₄ (λ n a m b. not n || b) (settled_alone without) tt (bit x.nonzero i) (bit x.full i) (bit y.nonzero i) (bit y.full i))
+
+-- ---- a part that is to be looked into, and even on one side (all clear or all set there, by its full bit): the rule tells the other side's truths apart
+
+-- the rule with its two sides exchanged
+abbrev pub turned : Rule → Rule
+turned f a b = f b a
+
+either_way : (f : Rule) (n a m b : Bool) → unsettled_by (turned f) m b n a ≡ unsettled_by f n a m b
+either_way f n a m b =
+    let swap : (x y : Bool) → (x || y) ≡ (y || x) = same₂ (λ x y. x || y) (λ x y. y || x) tt in
+    ap₂ (λ (x y : Bool). x && not y) (swap (m && not b) (n && not a))
+    (swap ((not m && second_settles f false) || (b && second_settles f true)) ((not n && first_settles f false) || (a && first_settles f true)))
+
+-- even on the second side
+pub second_even : (f : Rule) (n a m b : Bool) → unsettled_by f n a m b ≡ true → (m && not b) ≡ false → differ (f false b) (f true b) ≡ true
+second_even f n a m b e z = by m b (none ((not n && first_settles f false) || (a && first_settles f true)) _ (not-true _ (and_right ((n && not a) || (m && not b)) _ e))) z
+  where
+    none : (x y : Bool) → (x || y) ≡ false → y ≡ false
+    none true y q = absurd (true≢false q)
+    none false y q = q
+
+    by : (m b : Bool) → ((not m && second_settles f false) || (b && second_settles f true)) ≡ false → (m && not b) ≡ false → differ (f false b) (f true b) ≡ true
+    by m true q z = not-false _ (none (not m && second_settles f false) (second_settles f true) q)
+    by true false q z = absurd (true≢false z)
+    by false false q z = not-false _ (sym (same₁ (λ x. x || false) (λ x. x) tt (second_settles f false)) ∙ q)
+
+-- even on the first
+pub first_even : (f : Rule) (n a m b : Bool) → unsettled_by f n a m b ≡ true → (n && not a) ≡ false → differ (f a false) (f a true) ≡ true
+first_even f n a m b e z = second_even (turned f) m b n a (either_way f n a m b ∙ e) z
+
+-- and so the word of the other side is kept or turned over
+pub kept_or_turned : (f : Rule) (c : Bool) (x : ℕ) → x < 2 ^ 64 → differ (f false c) (f true c) ≡ true
+    → on_words f x (cond c (2 ^ 64 - 1) 0) ≡ cond (f false c) ((2 ^ 64 - 1) - x) x
+kept_or_turned f c x h d = sym (on_is f x (cond c (2 ^ 64 - 1) 0) _ (below (f false c)) (λ i l. bits i l (f false c) refl ∙ ap (f (bit x i)) (sym (even c i l))))
+  where
+    below : (b : Bool) → cond b ((2 ^ 64 - 1) - x) x < 2 ^ 64
+    below true = omega arith
+    below false = h
+
+    even : (c : Bool) (i : ℕ) → i < 64 → bit (cond c (2 ^ 64 - 1) 0) i ≡ c
+    even true i l = bit_ones 64 i ∙ lt-ltb i 64 l
+    even false i l = bit_zero i
+
+    value : (b v : Bool) → f false c ≡ b → cond b (not v) v ≡ f v c
+    value true true e = sym (not-true (f true c) (sym (ap (λ (z : Bool). differ z (f true c)) e) ∙ d))
+    value true false e = sym e
+    value false true e = sym (sym (ap (λ (z : Bool). differ z (f true c)) e) ∙ d)
+    value false false e = sym e
+
+    bits : (i : ℕ) → i < 64 → (b : Bool) → f false c ≡ b → bit (cond b ((2 ^ 64 - 1) - x) x) i ≡ f (bit x i) c
+    bits i l true e = bit_not 64 x i h l ∙ value true (bit x i) e
+    bits i l false e = value false (bit x i) e
+
+pub turned_words : (f : Rule) (x y : ℕ) → on_words f x y ≡ on_words (turned f) y x
+unfolding on_words
+turned_words f x y = refl
 
 -- ---- the parts split
 

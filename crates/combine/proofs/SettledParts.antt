@@ -1,8 +1,8 @@
 -- A settled part of a combination: it is what the rule makes of the two masks' bits, throughout. Then a word of the combination, and a settled
 -- block. Assumes nothing.
-use Rattle.combine.proofs.Kit.{◌≡◌, refl, ap, ap₂, sym, ◌∙◌, Bool, true, false, not, ◌&&◌, ◌||◌, cond, true≢false, false≢true, List, ℕ, ◌+◌, ◌*◌, ◌<◌, ◌≤◌, arith, eq-eqb, lt-ltb, not-false}
+use Rattle.combine.proofs.Kit.{◌≡◌, refl, ap, ap₂, sym, ◌∙◌, Bool, true, false, not, ◌&&◌, ◌||◌, cond, true≢false, false≢true, List, ℕ, ◌+◌, ◌*◌, ◌<◌, ◌≤◌, arith, eq-eqb, lt-ltb, not-false, not-true}
 use Rattle.positions.specs.Positions.{Positions, differ}
-use Rattle.positions.proofs.Bools.{same₁, same₂}
+use Rattle.positions.proofs.Bools.{and_left, and_right, same₁}
 use Rattle.bits.specs.Bit.{bit, mask}
 use Rattle.bits.proofs.Bits.{bit_zero, bit_ones}
 use Rattle.bits.proofs.Words.{mask_ext, mask_all, mask_none}
@@ -13,6 +13,7 @@ use Rattle.range_bitset.proofs.SetWords.{word_bit, word_all, word_none, all_any,
 use Rattle.combine.specs.Rules.{Rule, combined, on_words}
 use Rattle.combine.specs.Inner.{first_settles, second_settles, unsettled_by, unsettled_at, read_word, made_word}
 use Rattle.combine.specs.declared.rule.Masks.{Masks}
+use Rattle.combine.proofs.RuleMasks.{first_even, second_even}
 use Rattle.combine.proofs.WordKinds.{made_settled, made_unsettled}
 use Rattle.combine.proofs.Sides.{size}
 
@@ -135,47 +136,32 @@ module _ (u s : Positions) (k : ℕ) (h : Bool → Bool) (d : differ (h false) (
       by' true e = absurd (never true (λ i l. (word_says u k i l).all e))
       by' false e = refl
 
--- the rule with its two sides exchanged
-abbrev turned : Rule → Rule
-turned f a b = f b a
-
-either_way : (f : Rule) (n a m b : Bool) → unsettled_by (turned f) m b n a ≡ unsettled_by f n a m b
-either_way f n a m b =
-    let swap : (x y : Bool) → (x || y) ≡ (y || x) = same₂ (λ x y. x || y) (λ x y. y || x) tt in
-    ap₂ (λ (x y : Bool). x && not y) (swap (m && not b) (n && not a))
-    (swap ((not m && second_settles f false) || (b && second_settles f true)) ((not n && first_settles f false) || (a && first_settles f true)))
-
-module _ (f : Rule) (s t : Positions) (k : ℕ) (p : any_word s k ≡ true) (q : all_word s k ≡ false) where
-  -- stored on the first side, all clear or all set on the second
-  first_lone : (m b : Bool) → any_word t k ≡ m → all_word t k ≡ b → (m && not b) ≡ false → unsettled_by f true false m b ≡ true
-      → (any_word (combined f s t) k ≡ true) × (all_word (combined f s t) k ≡ false)
-  first_lone true false x y e z = absurd (true≢false e)
-  first_lone false true x y e z = absurd (true≢false (sym (all_any t k y) ∙ x))
-  first_lone false false x y e z =
-      kept_some (combined f s t) s k (λ v. f v false) (sym (same₁ (λ c. not (not c || false)) (λ c. c) tt (differ (f false false) (f true false))) ∙ z)
-      (λ i l. ap (f (s (64 * k + i))) ((word_says t k i l).none x)) p q
-  first_lone true true x y e z =
-      kept_some (combined f s t) s k (λ v. f v true) (sym (same₁ (λ c. not (not c)) (λ c. c) tt (differ (f false true) (f true true))) ∙ z)
-      (λ i l. ap (f (s (64 * k + i))) ((word_says t k i l).all y)) p q
+-- a position of a word that is even, by its full bit
+even_position : (m b v : Bool) → Says m b v → (m && not b) ≡ false → v ≡ b
+even_position m true v p e = p.all refl
+even_position true false v p e = absurd (true≢false e)
+even_position false false v p e = p.none refl
 
 -- stored on either side alone
 pub lone_mixed : (f : Rule) (s t : Positions) (k : ℕ) → unsettled_by f (any_word s k) (all_word s k) (any_word t k) (all_word t k) ≡ true
     → ((any_word s k && not (all_word s k)) && (any_word t k && not (all_word t k))) ≡ false
     → (any_word (combined f s t) k ≡ true) × (all_word (combined f s t) k ≡ false)
-lone_mixed f s t k e z = by (any_word s k) refl (all_word s k) refl (any_word t k) refl (all_word t k) refl
+lone_mixed f s t k e z = by (any_word s k && not (all_word s k)) refl
   where
-    by : (n : Bool) → any_word s k ≡ n → (a : Bool) → all_word s k ≡ a → (m : Bool) → any_word t k ≡ m → (b : Bool) → all_word t k ≡ b
-        → (any_word (combined f s t) k ≡ true) × (all_word (combined f s t) k ≡ false)
-    by true pn false pa m pm b pb = first_lone f s t k pn pa m b pm pb (rw (pn, pa, pm, pb) at z) (rw (pn, pa, pm, pb) at e)
-    by false pn true pa m pm b pb = absurd (true≢false (sym (all_any s k pa) ∙ pn))
-    by true pn true pa true pm false pb =
-        first_lone (turned f) t s k pm pb true true pn pa refl (either_way f true true true false ∙ (rw (pn, pa, pm, pb) at e))
-    by false pn false pa true pm false pb =
-        first_lone (turned f) t s k pm pb false false pn pa refl (either_way f false false true false ∙ (rw (pn, pa, pm, pb) at e))
-    by true pn true pa true pm true pb = absurd (false≢true (rw (pn, pa, pm, pb) at e))
-    by false pn false pa true pm true pb = absurd (false≢true (rw (pn, pa, pm, pb) at e))
-    by true pn true pa false pm b pb = absurd (false≢true (rw (pn, pa, pm) at e))
-    by false pn false pa false pm b pb = absurd (false≢true (rw (pn, pa, pm) at e))
+    mixed : (n a : Bool) → (n && not a) ≡ true → (n ≡ true) × (a ≡ false)
+    mixed n a q = (and_left n (not a) q, not-true a (and_right n (not a) q))
+
+    by : (x : Bool) → (any_word s k && not (all_word s k)) ≡ x → (any_word (combined f s t) k ≡ true) × (all_word (combined f s t) k ≡ false)
+    by true x =
+        let p = mixed (any_word s k) (all_word s k) x in
+        let y : (any_word t k && not (all_word t k)) ≡ false = sym (ap (λ (c : Bool). c && (any_word t k && not (all_word t k))) x) ∙ z in
+        kept_some (combined f s t) s k (λ v. f v (all_word t k)) (second_even f _ _ _ _ e y)
+        (λ i l. ap (f (s (64 * k + i))) (even_position _ _ _ (word_says t k i l) y)) p.0 p.1
+    by false x =
+        let y : (any_word t k && not (all_word t k)) ≡ true = sym (ap (λ (c : Bool). c || (any_word t k && not (all_word t k))) x) ∙ and_left _ _ e in
+        let p = mixed (any_word t k) (all_word t k) y in
+        kept_some (combined f s t) t k (λ v. f (all_word s k) v) (first_even f _ _ _ _ e x)
+        (λ i l. ap (λ (v : Bool). f v (t (64 * k + i))) (even_position _ _ _ (word_says s k i l) x)) p.0 p.1
 
 -- ---- a block
 

@@ -1,9 +1,10 @@
 -- The walks over the words of one kind, stored on both sides or on one: what is written and counted up to a word, and gathered. Assumes nothing.
-use Rattle.combine.proofs.Kit.{◌≡◌, refl, ap, sym, ◌∙◌, ◌≢◌, Bool, true, false, not, ◌&&◌, ◌||◌, cond, List, ℕ, ◌+◌, ◌-◌, ◌^◌, ◌<◌, ◌≤◌, arith, eqb, eqb-true, eqb-false, bit_and, bit_or, and_le_l, ones, count_trailing_zeros, length, get_or, set, length-set, get_or-set_same, get_or-set_other}
+use Rattle.combine.proofs.Kit.{◌≡◌, refl, ap, sym, ◌∙◌, ◌≢◌, Bool, true, false, not, ◌&&◌, ◌||◌, cond, List, ℕ, ◌+◌, ◌*◌, ◌-◌, ◌^◌, ◌%◌, ◌<◌, ◌≤◌, arith, eqb, eqb-true, eqb-false, bit_and, bit_or, and_le_l, ones, count_trailing_zeros, length, get_or, set, length-set, get_or-set_same, get_or-set_other}
 use Rattle.positions.specs.Positions.{sum_over}
 use Rattle.positions.proofs.Bools.{same₁}
 use Rattle.bits.specs.Bit.{bit, mask}
 use Rattle.bits.proofs.Bits.{bit_zero, bit_below}
+use Rattle.bits.proofs.Masks.{test_shifted}
 use Rattle.bits.proofs.Walks.{taken, walk_none}
 use Rattle.bits.proofs.Words.{mask_ext, mask_none}
 use Rattle.range_bitset.specs.Read.{ALL}
@@ -17,9 +18,19 @@ use Rattle.combine.proofs.Gathered.{past, here, still_left, past_more, gathered_
 pub pair_lt : (f : Rule) (l k : List ℕ) (i : ℕ) → pair_word f l k i < 2 ^ 64
 pair_lt f l k i = on_lt f (get_or l i 0) (get_or k i 0)
 
-pub lone_lt : (f : Rule) (first : Bool) (l : List ℕ) (a i : ℕ) → lone_word f first l a i < 2 ^ 64
-lone_lt f true l a i = on_lt f (get_or l i 0) (cond (bit a i) ALL 0)
-lone_lt f false l a i = on_lt f (cond (bit a i) ALL 0) (get_or l i 0)
+pub lone_lt : (l : List ℕ) (over : ℕ) → ((k : ℕ) → get_or l k 0 < 2 ^ 64) → (i : ℕ) → lone_word l over i < 2 ^ 64
+lone_lt l over known i = by (bit over i)
+  where
+    by : (b : Bool) → cond b (ALL - get_or l i 0) (get_or l i 0) < 2 ^ 64
+    by true = omega arith
+    by false = known i
+
+-- a word kept or turned over, as the code tests it
+pub turned_is : (l : List ℕ) (over i : ℕ) → i < 64 → (word : ℕ)
+    → word ≡ cond (not (eqb (bit_and over (1 * 2 ^ i % 2 ^ 64)) 0)) (ALL - get_or l i 0) (get_or l i 0) → word ≡ lone_word l over i
+turned_is l over i h word e =
+    e ∙ ap (λ (b : Bool). cond (not b) (ALL - get_or l i 0) (get_or l i 0)) (test_shifted 64 over i h)
+    ∙ ap (λ (b : Bool). cond b (ALL - get_or l i 0) (get_or l i 0)) (same₁ (λ b. not (not b)) (λ b. b) tt (bit over i))
 
 -- before the walk none is past, after it all are
 none_past : (m i : ℕ) → past (bit m) m i ≡ false

@@ -4,7 +4,7 @@ use Rattle.positions.specs.Positions.{sum_over}
 use Rattle.positions.proofs.Bools.{and_left, and_right, same₁, same₃}
 use Rattle.positions.proofs.Sums.{over_diff, over_ext, over_terms}
 use Rattle.bits.specs.Bit.{bit, mask}
-use Rattle.bits.proofs.Bits.{bit_below, bits_fit, bit_of_and, bit_of_or}
+use Rattle.bits.proofs.Bits.{bit_zero, bit_below, bits_fit, bit_of_and, bit_of_or}
 use Rattle.bits.proofs.Masks.{bit_without}
 use Rattle.bits.proofs.Words.{mask_true, mask_at, mask_of}
 use Rattle.bits.proofs.Walks.{walk_const}
@@ -14,8 +14,8 @@ use Rattle.combine.specs.Rules.{Rule, on_words}
 use Rattle.combine.specs.Inner.{unsettled_at, full_at, mixed_at, lone_at, read_word, made_word, pair_word, lone_word, Splits, MakesPairs, MakesLone, MakesWords}
 use Rattle.combine.specs.declared.rule.Masks.{Masks}
 use Rattle.combine.specs.declared.rule.Split.{Split}
-use Rattle.combine.specs.declared.block.Made.{Made}
-use Rattle.combine.proofs.RuleMasks.{minus, on_lt}
+use Rattle.combine.specs.declared.block.Paired.{Paired}
+use Rattle.combine.proofs.RuleMasks.{minus, on_lt, on_bit, turned, second_even, first_even, kept_or_turned, turned_words}
 use Rattle.combine.proofs.Gathered.{valid_at, unsettled_in, unsettled_here, split_sum}
 
 -- ---- a word on one side
@@ -65,11 +65,19 @@ module _ (f : Rule) (x : Masks) (l : List ℕ) (y : Masks) (k : List ℕ) (i : �
     pub made_pair : mixed_at x i ≡ true → mixed_at y i ≡ true → made_word f x l y k i ≡ pair_word f l k i
     made_pair p q = made_unsettled u ∙ ap₂ (on_words f) (read_mixed x l i p) (read_mixed y k i q)
 
-    pub made_first : mixed_at x i ≡ true → mixed_at y i ≡ false → made_word f x l y k i ≡ lone_word f true l y.full i
-    made_first p q = made_unsettled u ∙ ap₂ (on_words f) (read_mixed x l i p) (read_even y k i q)
+    -- stored on one side: kept or turned over, as the rule has it
+    module _ (h : i < 64) where
+      pub made_first : get_or l i 0 < 2 ^ 64 → mixed_at x i ≡ true → mixed_at y i ≡ false → made_word f x l y k i ≡ lone_word l (on_words f 0 y.full) i
+      made_first n p q =
+          made_unsettled u ∙ ap₂ (on_words f) (read_mixed x l i p) (read_even y k i q)
+          ∙ kept_or_turned f (bit y.full i) (get_or l i 0) n (second_even f _ _ _ _ u q)
+          ∙ ap (λ (b : Bool). cond b (ALL - get_or l i 0) (get_or l i 0)) (sym (on_bit f 0 y.full i h ∙ ap (λ (z : Bool). f z (bit y.full i)) (bit_zero i)))
 
-    pub made_second : mixed_at x i ≡ false → mixed_at y i ≡ true → made_word f x l y k i ≡ lone_word f false k x.full i
-    made_second p q = made_unsettled u ∙ ap₂ (on_words f) (read_even x l i p) (read_mixed y k i q)
+      pub made_second : get_or k i 0 < 2 ^ 64 → mixed_at x i ≡ false → mixed_at y i ≡ true → made_word f x l y k i ≡ lone_word k (on_words f x.full 0) i
+      made_second n p q =
+          made_unsettled u ∙ ap₂ (on_words f) (read_even x l i p) (read_mixed y k i q) ∙ turned_words f _ _
+          ∙ kept_or_turned (turned f) (bit x.full i) (get_or k i 0) n (first_even f _ _ _ _ u p)
+          ∙ ap (λ (b : Bool). cond b (ALL - get_or k i 0) (get_or k i 0)) (sym (on_bit f x.full 0 i h ∙ ap (f (bit x.full i)) (bit_zero i)))
 
 -- a settled word is all ones or 0
 full_some : (g : Bool) → not (eqb (cond g ALL 0) 0) ≡ g
@@ -153,22 +161,22 @@ module _ (f : Rule) (x : Masks) (l : List ℕ) (y : Masks) (k st : List ℕ) (fe
   other_or true b e p = absurd (true≢false p)
   other_or false b e p = e
 
-  is_first : (i : ℕ) → bit of_first i ≡ true → w i ≡ lone_word f true l y.full i
-  is_first i e =
-      let p = sym (first_bit i) ∙ e in
-      let u = (unsettled_in f x y (length st) r s i (and_left (bit r.unsettled i) _ p)).1 in
-      let q = not-true (mixed_at y i) (and_right (bit r.unsettled i) _ p) in
-      made_first f x l y k i u (or_other (mixed_at x i) (mixed_at y i) (some_mixed f x y i u) q) q
+  module _ {st₁ st₂ st₃ : List ℕ} {made : Paired} {n₁ n₂ : ℕ} (hf : r.full < 2 ^ 64) (hn : made.even.empty < 2 ^ 64) (hm : made.even.full < 2 ^ 64)
+      (p : MakesPairs f l k pairs st st₁ made) (a : MakesLone l (on_words f 0 y.full) of_first st₁ st₂ n₁) (b : MakesLone k (on_words f x.full 0) of_second st₂ st₃ n₂) where
+    is_first : (i : ℕ) → bit of_first i ≡ true → w i ≡ lone_word l (on_words f 0 y.full) i
+    is_first i e =
+        let p = sym (first_bit i) ∙ e in
+        let u = unsettled_in f x y (length st) r s i (and_left (bit r.unsettled i) _ p) in
+        let q = not-true (mixed_at y i) (and_right (bit r.unsettled i) _ p) in
+        made_first f x l y k i u.1 (omega (arith, u.0, few)) (a.known i) (or_other (mixed_at x i) (mixed_at y i) (some_mixed f x y i u.1) q) q
 
-  is_second : (i : ℕ) → bit of_second i ≡ true → w i ≡ lone_word f false k x.full i
-  is_second i e =
-      let p = sym (second_bit i) ∙ e in
-      let u = (unsettled_in f x y (length st) r s i (and_left (bit r.unsettled i) _ p)).1 in
-      let q = not-true (mixed_at x i) (and_right (bit r.unsettled i) _ p) in
-      made_second f x l y k i u q (other_or (mixed_at x i) (mixed_at y i) (some_mixed f x y i u) q)
+    is_second : (i : ℕ) → bit of_second i ≡ true → w i ≡ lone_word k (on_words f x.full 0) i
+    is_second i e =
+        let p = sym (second_bit i) ∙ e in
+        let u = unsettled_in f x y (length st) r s i (and_left (bit r.unsettled i) _ p) in
+        let q = not-true (mixed_at x i) (and_right (bit r.unsettled i) _ p) in
+        made_second f x l y k i u.1 (omega (arith, u.0, few)) (b.known i) q (other_or (mixed_at x i) (mixed_at y i) (some_mixed f x y i u.1) q)
 
-  module _ {st₁ st₂ st₃ : List ℕ} {made : Made} {n₁ n₂ : ℕ} (hf : r.full < 2 ^ 64) (hn : made.masks.nonzero < 2 ^ 64) (hm : made.masks.full < 2 ^ 64)
-      (p : MakesPairs f l k pairs st st₁ made) (a : MakesLone f true l y.full of_first st₁ st₂ n₁) (b : MakesLone f false k x.full of_second st₂ st₃ n₂) where
     -- ---- the sums
 
     unsettled_sum : sum_over (bit r.unsettled) (λ i. ones (w i)) 0 64 ≡ made.population + n₁ + n₂
@@ -179,11 +187,11 @@ module _ (f : Rule) (x : Masks) (l : List ℕ) (y : Masks) (k st : List ℕ) (fe
         let Y : ℕ → Bool = mixed_at y in
         let z₁ : sum_over (λ i. u i && not (Y i)) t 0 64 ≡ n₁ =
         over_ext (λ i. u i && not (Y i)) (bit of_first) t 0 64 (λ i _ _. sym (first_bit i))
-        ∙ over_terms (bit of_first) t (λ i. ones (lone_word f true l y.full i)) 0 64 (λ i _ _ e. ap ones (is_first i e)) ∙ sym a.counted
+        ∙ over_terms (bit of_first) t (λ i. ones (lone_word l (on_words f 0 y.full) i)) 0 64 (λ i _ _ e. ap ones (is_first i e)) ∙ sym a.counted
         in
         let z₂ : sum_over (λ i. (u i && Y i) && not (X i)) t 0 64 ≡ n₂ =
         over_ext (λ i. (u i && Y i) && not (X i)) (bit of_second) t 0 64 (λ i _ _. second_of i (u i) refl ∙ sym (second_bit i))
-        ∙ over_terms (bit of_second) t (λ i. ones (lone_word f false k x.full i)) 0 64 (λ i _ _ e. ap ones (is_second i e)) ∙ sym b.counted
+        ∙ over_terms (bit of_second) t (λ i. ones (lone_word k (on_words f x.full 0) i)) 0 64 (λ i _ _ e. ap ones (is_second i e)) ∙ sym b.counted
         in
         let z₃ : sum_over (λ i. (u i && Y i) && X i) t 0 64 ≡ made.population =
         over_ext (λ i. (u i && Y i) && X i) (bit pairs) t 0 64
@@ -221,31 +229,30 @@ module _ (f : Rule) (x : Masks) (l : List ℕ) (y : Masks) (k st : List ℕ) (fe
     full_bit i c = s.full_is i ∙ ap (λ (z : Bool). (z && not (U i)) && full_at f x y i) (valid_at f x y (length st) r s i c)
 
     -- a truth of a word by its mask bit: of the settled word, of a lone one, and of a pair
-    nonzero_bit : (i : ℕ) → i < length st → bit (bit_or (bit_or (bit_or r.full of_first) of_second) made.masks.nonzero) i ≡ (lone_at f x y i || not (eqb (w i) 0))
+    nonzero_bit : (i : ℕ) → i < length st → bit (bit_or r.full (minus r.unsettled made.even.empty)) i ≡ (lone_at f x y i || not (eqb (w i) 0))
     nonzero_bit i c =
         bit_of_or _ _ i
-        ∙ ap₂ ◌||◌
-        (bit_of_or _ _ i ∙ ap₂ ◌||◌ (bit_of_or _ _ i ∙ ap₂ ◌||◌ (full_bit i c) (first_bit i ∙ ap (λ (z : Bool). z && not (mixed_at y i)) here))
-        (second_bit i ∙ ap (λ (z : Bool). z && not (mixed_at x i)) here))
-        (ap (λ (z : ℕ). bit z i) p.nonzero_is ∙ mask_at 64 _ i (omega (arith, c, few))
-        ∙ ap (λ (z : Bool). z && not (eqb (pair_word f l k i) 0)) (pairs_bit i ∙ ap (λ (z : Bool). (z && mixed_at x i) && mixed_at y i) here))
+        ∙ ap₂ ◌||◌ (full_bit i c)
+        (bit_without 64 r.unsettled made.even.empty i hr hn
+        ∙ ap₂ (λ (a b : Bool). a && not b) here
+        (ap (λ (z : ℕ). bit z i) p.empty_is ∙ mask_at 64 _ i (omega (arith, c, few))
+        ∙ ap (λ (z : Bool). z && eqb (pair_word f l k i) 0) (pairs_bit i ∙ ap (λ (z : Bool). (z && mixed_at x i) && mixed_at y i) here)))
         ∙ by (U i) refl (mixed_at x i) refl (mixed_at y i) refl
       where
         here : bit r.unsettled i ≡ U i
         here = unsettled_here f x y (length st) r s i c
 
         by : (u : Bool) → U i ≡ u → (m : Bool) → mixed_at x i ≡ m → (o : Bool) → mixed_at y i ≡ o
-            → ((((not u && full_at f x y i) || (u && not o)) || (u && not m)) || (((u && m) && o) && not (eqb (pair_word f l k i) 0)))
-            ≡ ((u && not (m && o)) || not (eqb (w i) 0))
+            → ((not u && full_at f x y i) || (u && not (((u && m) && o) && eqb (pair_word f l k i) 0))) ≡ ((u && not (m && o)) || not (eqb (w i) 0))
         by false e m d o g =
-            same₁ (λ z. ((z || false) || false) || false) (λ z. z) tt (full_at f x y i)
+            same₁ (λ z. z || false) (λ z. z) tt (full_at f x y i)
             ∙ sym (ap (λ (z : ℕ). not (eqb z 0)) (made_settled f x l y k i e) ∙ full_some (full_at f x y i))
         by true e true d true g = sym (ap (λ (z : ℕ). not (eqb z 0)) (made_pair f x l y k i e d g))
         by true e true d false g = refl
         by true e false d true g = refl
         by true e false d false g = refl
 
-    full_mask_bit : (i : ℕ) → i < length st → bit (bit_or r.full made.masks.full) i ≡ (not (lone_at f x y i) && eqb (w i) ALL)
+    full_mask_bit : (i : ℕ) → i < length st → bit (bit_or r.full made.even.full) i ≡ (not (lone_at f x y i) && eqb (w i) ALL)
     full_mask_bit i c =
         bit_of_or _ _ i
         ∙ ap₂ ◌||◌ (full_bit i c)
@@ -268,9 +275,9 @@ module _ (f : Rule) (x : Masks) (l : List ℕ) (y : Masks) (k st : List ℕ) (fe
     written : (i : ℕ) → i < length st → U i ≡ true → get_or st₃ i 0 ≡ w i
     written i c u =
         b.puts.put i (omega (arith, a.puts.same_length, p.puts.same_length))
-        ∙ ap₂ (λ (z : Bool) (v : ℕ). cond z (lone_word f false k x.full i) v) (second_bit i ∙ ap (λ (z : Bool). z && not (mixed_at x i)) here)
+        ∙ ap₂ (λ (z : Bool) (v : ℕ). cond z (lone_word k (on_words f x.full 0) i) v) (second_bit i ∙ ap (λ (z : Bool). z && not (mixed_at x i)) here)
         (a.puts.put i (omega (arith, p.puts.same_length))
-        ∙ ap₂ (λ (z : Bool) (v : ℕ). cond z (lone_word f true l y.full i) v) (first_bit i ∙ ap (λ (z : Bool). z && not (mixed_at y i)) here)
+        ∙ ap₂ (λ (z : Bool) (v : ℕ). cond z (lone_word l (on_words f 0 y.full) i) v) (first_bit i ∙ ap (λ (z : Bool). z && not (mixed_at y i)) here)
         (p.puts.put i c ∙ ap (λ (z : Bool). cond z (pair_word f l k i) (get_or st i 0)) (pairs_bit i ∙ ap (λ (z : Bool). (z && mixed_at x i) && mixed_at y i) here)))
         ∙ by (mixed_at x i) refl (mixed_at y i) refl
       where
@@ -278,17 +285,17 @@ module _ (f : Rule) (x : Masks) (l : List ℕ) (y : Masks) (k st : List ℕ) (fe
         here = unsettled_here f x y (length st) r s i c ∙ u
 
         by : (m : Bool) → mixed_at x i ≡ m → (o : Bool) → mixed_at y i ≡ o
-            → cond (not m) (lone_word f false k x.full i) (cond (not o) (lone_word f true l y.full i) (cond (m && o) (pair_word f l k i) (get_or st i 0))) ≡ w i
+            → cond (not m) (lone_word k (on_words f x.full 0) i) (cond (not o) (lone_word l (on_words f 0 y.full) i) (cond (m && o) (pair_word f l k i) (get_or st i 0))) ≡ w i
         by true d true g = sym (made_pair f x l y k i u d g)
-        by true d false g = sym (made_first f x l y k i u d g)
-        by false d true g = sym (made_second f x l y k i u d g)
+        by true d false g = sym (made_first f x l y k i u (omega (arith, c, few)) (a.known i) d g)
+        by false d true g = sym (made_second f x l y k i u (omega (arith, c, few)) (b.known i) d g)
         by false d false g = absurd (false≢true (sym (ap₂ ◌||◌ d g) ∙ some_mixed f x y i u))
 
     pub words_made : MakesWords f x l y k st st₃
         (record {
           masks = record {
-            nonzero = bit_or (bit_or (bit_or r.full of_first) of_second) made.masks.nonzero;
-            full = bit_or r.full made.masks.full;
+            nonzero = bit_or r.full (minus r.unsettled made.even.empty);
+            full = bit_or r.full made.even.full;
           };
           population = ones r.full * 64 + made.population + n₁ + n₂;
         })
@@ -296,7 +303,7 @@ module _ (f : Rule) (x : Masks) (l : List ℕ) (y : Masks) (k st : List ℕ) (fe
         record {
           same_length = b.puts.same_length ∙ a.puts.same_length ∙ p.puts.same_length;
           summed = record {
-            nonzero_is = mask_of (length st) _ _ (or_lt (length st) _ _ (or_lt (length st) _ _ (or_lt (length st) _ _ (full_fits hf) first_fits) second_fits) (met _ _ hn p.nonzero_is)) nonzero_bit;
+            nonzero_is = mask_of (length st) _ _ (or_lt (length st) _ _ (full_fits hf) (lt_of_le_of_lt (and_le_l _ _) unsettled_fits)) nonzero_bit;
             full_is = mask_of (length st) _ _ (or_lt (length st) _ _ (full_fits hf) (met _ _ hm p.full_is)) full_mask_bit;
             counted = omega (arith, sum);
             few = omega (arith, sum, most);

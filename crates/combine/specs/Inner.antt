@@ -11,6 +11,7 @@ use Rattle.combine.specs.Rules.{Rule, combined, on_words}
 use Rattle.combine.specs.declared.rule.Masks.{Masks}
 use Rattle.combine.specs.declared.rule.Split.{Split}
 use Rattle.combine.specs.declared.block.Made.{Made}
+use Rattle.combine.specs.declared.block.Paired.{Paired}
 use Rattle.combine.specs.declared.source.Source.{Source}
 
 -- ---- either level: the parts of a whole by their bits in the masks, n and a on the first side, m and b on the second
@@ -59,24 +60,24 @@ pub record Puts (m : ℕ) (v : ℕ → ℕ) (st st' : List ℕ) : Type 0 where
   pub same_length : length st' ≡ length st
   pub put : (i : ℕ) → i < length st → slice_index st' i ≡ cond (bit m i) (v i) (slice_index st i)
 
--- words that are stored on both sides; on one side alone, the first or not, with the full mask of the other side
+-- a word that is stored on both sides; and one that is stored on one side alone, kept or turned over
 abbrev pub pair_word : Rule → List ℕ → List ℕ → ℕ → ℕ
 pair_word f l k i = on_words f (slice_index l i) (slice_index k i)
 
-abbrev pub lone_word : Rule → Bool → List ℕ → ℕ → ℕ → ℕ
-lone_word f first l a i =
-    cond first (on_words f (slice_index l i) (cond (bit a i) ALL 0)) (on_words f (cond (bit a i) ALL 0) (slice_index l i))
+abbrev pub lone_word : List ℕ → ℕ → ℕ → ℕ
+lone_word l over i = cond (bit over i) (ALL - slice_index l i) (slice_index l i)
 
-pub record MakesPairs (f : Rule) (l k : List ℕ) (m : ℕ) (st st' : List ℕ) (r : Made) : Type 0 where
+pub record MakesPairs (f : Rule) (l k : List ℕ) (m : ℕ) (st st' : List ℕ) (r : Paired) : Type 0 where
   pub puts : Puts m (pair_word f l k) st st'
-  pub nonzero_is : r.masks.nonzero ≡ mask 64 (λ i. bit m i && not (pair_word f l k i == 0))
-  pub full_is : r.masks.full ≡ mask 64 (λ i. bit m i && (pair_word f l k i == ALL))
+  pub empty_is : r.even.empty ≡ mask 64 (λ i. bit m i && (pair_word f l k i == 0))
+  pub full_is : r.even.full ≡ mask 64 (λ i. bit m i && (pair_word f l k i == ALL))
   pub counted : r.population ≡ sum_over (bit m) (λ i. count_ones (pair_word f l k i)) 0 64
   pub few : r.population ≤ 4096
 
-pub record MakesLone (f : Rule) (first : Bool) (l : List ℕ) (a m : ℕ) (st st' : List ℕ) (r : ℕ) : Type 0 where
-  pub puts : Puts m (lone_word f first l a) st st'
-  pub counted : r ≡ sum_over (bit m) (λ i. count_ones (lone_word f first l a i)) 0 64
+pub record MakesLone (l : List ℕ) (over m : ℕ) (st st' : List ℕ) (r : ℕ) : Type 0 where
+  pub known : (i : ℕ) → slice_index l i < 2 ^ 64
+  pub puts : Puts m (lone_word l over) st st'
+  pub counted : r ≡ sum_over (bit m) (λ i. count_ones (lone_word l over i)) 0 64
   pub few : r ≤ 4096
 
 -- the parts that are mixed on a side; and those to be looked into that are mixed on one side alone

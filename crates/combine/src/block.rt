@@ -1,7 +1,5 @@
 // The words of one block combined. Assumes nothing.
-ghost use Rattle.std.specs.Prelude.{◌≡◌, ◌+◌, ◌*◌, ◌<◌, ◌≤◌, ◌^◌, ◌-◌, cond, length, bit_or};
-ghost use Rattle.bits.specs.Bit.{bit};
-ghost use Rattle.combine.specs.Rules.{on_words};
+ghost use Rattle.std.specs.Prelude.{◌≡◌, ◌==◌, ◌<◌, ◌≤◌, ◌^◌, ◌-◌, cond, length, bit_or};
 ghost use Rattle.combine.specs.Inner.{MakesPairs, MakesLone, MakesWords};
 
 use crate::rule::{Masks, Rule, Split};
@@ -38,60 +36,67 @@ pub(crate) fn with(mask: u64, i: usize, value: bool) -> u64
     if value { mask | (1u64 << i) } else { mask }
 }
 
-// All bits set where the mask has part `i`, else none.
-fn spread(mask: u64, i: usize) -> u64
-    requires { i < 64 }
-    ensures { result ≡ cond (bit mask i) (2 ^ 64 - 1) 0 }
+// Words that were found to be all clear, and words that were found to be all set.
+#[derive(Clone, Copy)]
+pub(crate) struct Even {
+    pub(crate) empty: u64,
+    pub(crate) full: u64,
+}
+
+impl Even {
+    // With word `i` too.
+    fn and(self, i: usize, word: u64) -> Self
+        requires { i < 64 }
+        ensures { (result.empty ≡ cond (word == 0) (bit_or self.empty (2 ^ i)) self.empty) × (result.full ≡ cond (word == 2 ^ 64 - 1) (bit_or self.full (2 ^ i)) self.full) }
+    {
+        Even {
+            empty: with(self.empty, i, word == 0),
+            full: with(self.full, i, word == ALL),
+        }
+    }
+}
+
+// A word as it is, or turned over: each position the other way.
+fn turned(word: u64, over: bool) -> u64
+    ensures { result ≡ cond over ((2 ^ 64 - 1) - word) word }
 {
-    if mask & (1u64 << i) != 0 { ALL } else { 0 }
+    if over { !word } else { word }
+}
+
+// What the words of a kind have become.
+#[derive(Clone, Copy)]
+pub(crate) struct Paired {
+    pub(crate) even: Even,
+    pub(crate) population: u32,
 }
 
 // The words `mask`, which are stored on both sides, combined into their places.
-fn combine_pairs<R: Rule>(x: &[u64], y: &[u64], mask: u64, third: &mut [u64]) -> Made
+fn combine_pairs<R: Rule>(x: &[u64], y: &[u64], mask: u64, third: &mut [u64]) -> Paired
     requires { (length x.now ≡ length third.old) × (length y.now ≡ length third.old) × (length third.old ≤ 64) × (mask < 2 ^ length third.old) }
     ensures { MakesPairs R.of x.now y.now mask third.old third.new result }
 {
-    let mut nonzero = 0u64;
-    let mut full = 0u64;
+    let mut even = Even { empty: 0, full: 0 };
     let mut population = 0u32;
     for i in Ones(mask) {
         let word = R::word(x[i], y[i]);
         third[i] = word;
-        nonzero = with(nonzero, i, word != 0);
-        full = with(full, i, word == ALL);
+        even = even.and(i, word);
         population += word.count_ones();
     }
-    Made {
-        masks: Masks { nonzero, full },
-        population,
-    }
+    Paired { even, population }
 }
 
-// The rule on a word that is stored on one side alone, the first where `FIRST` says so.
-fn lone_word<R: Rule, const FIRST: bool>(stored: u64, other: u64) -> u64
-    ensures { result ≡ cond FIRST (on_words R.of stored other) (on_words R.of other stored) }
-{
-    if FIRST {
-        R::word(stored, other)
-    } else {
-        R::word(other, stored)
-    }
-}
-
-// The words `mask`, which are stored on one side alone, combined into their places; on the other side each is all set or all clear, as `full` says.
-// That side does not settle them, so that they have some of their positions and not all. Answers how many.
-fn combine_lone<R: Rule, const FIRST: bool>(
-    stored: &[u64],
-    full: u64,
-    mask: u64,
-    third: &mut [u64],
-) -> u32
+// The words `mask`, which are stored on one side alone: since the other side, all clear or all set there, does not settle them, the
+// rule keeps each as it is or turns it over, as `over` says, and it has some of its positions and not all. Answers how many.
+// Put into the caller's code, so that a rule that turns none over asks for none.
+#[inline(always)]
+fn combine_lone(stored: &[u64], over: u64, mask: u64, third: &mut [u64]) -> u32
     requires { (length stored.now ≡ length third.old) × (length third.old ≤ 64) × (mask < 2 ^ length third.old) }
-    ensures { MakesLone R.of FIRST stored.now full mask third.old third.new result }
+    ensures { MakesLone stored.now over mask third.old third.new result }
 {
     let mut population = 0u32;
     for i in Ones(mask) {
-        let word = lone_word::<R, FIRST>(stored[i], spread(full, i));
+        let word = turned(stored[i], over & (1u64 << i) != 0);
         third[i] = word;
         population += word.count_ones();
     }
@@ -109,19 +114,15 @@ pub(crate) fn combine_words<R: Rule>(x: Words<'_>, y: Words<'_>, third: &mut [u6
     let y_mixed = y.masks.mixed();
     let first_alone = split.unsettled & !y_mixed;
     let second_alone = split.unsettled & !x_mixed;
-    let made = combine_pairs::<R>(
-        x.stored,
-        y.stored,
-        split.unsettled & x_mixed & y_mixed,
-        third,
-    );
-    let of_first = combine_lone::<R, true>(x.stored, y.masks.full, first_alone, third);
-    let of_second = combine_lone::<R, false>(y.stored, x.masks.full, second_alone, third);
+    let pairs = split.unsettled & x_mixed & y_mixed;
+    let paired = combine_pairs::<R>(x.stored, y.stored, pairs, third);
+    let of_first = combine_lone(x.stored, R::word(0, y.masks.full), first_alone, third);
+    let of_second = combine_lone(y.stored, R::word(x.masks.full, 0), second_alone, third);
     Made {
         masks: Masks {
-            nonzero: split.full | first_alone | second_alone | made.masks.nonzero,
-            full: split.full | made.masks.full,
+            nonzero: split.full | (split.unsettled & !paired.even.empty),
+            full: split.full | paired.even.full,
         },
-        population: split.full.count_ones() * 64 + made.population + of_first + of_second,
+        population: split.full.count_ones() * 64 + paired.population + of_first + of_second,
     }
 }

@@ -17,9 +17,8 @@ mod source;
 
 use answers::Refusal;
 use range_bitset::RangeBitset;
-use source::Source;
-
 pub use rule::{Both, Either, Masks, Rule, Without};
+use source::Source;
 
 // How many numbers are lent.
 #[derive(Clone, Copy)]
