@@ -73,10 +73,10 @@ module _ (x y : Masks) where
 -- ---- a part that is to be looked into, and even on one side (all clear or all set there, by its full bit): the rule tells the other side's truths apart
 
 -- the rule with its two sides exchanged
-abbrev pub turned : Rule → Rule
-turned f a b = f b a
+abbrev pub exchanged : Rule → Rule
+exchanged f a b = f b a
 
-either_way : (f : Rule) (n a m b : Bool) → unsettled_by (turned f) m b n a ≡ unsettled_by f n a m b
+either_way : (f : Rule) (n a m b : Bool) → unsettled_by (exchanged f) m b n a ≡ unsettled_by f n a m b
 either_way f n a m b =
     let swap : (x y : Bool) → (x || y) ≡ (y || x) = same₂ (λ x y. x || y) (λ x y. y || x) tt in
     ap₂ (λ (x y : Bool). x && not y) (swap (m && not b) (n && not a))
@@ -97,7 +97,7 @@ second_even f n a m b e z = by m b (none ((not n && first_settles f false) || (a
 
 -- even on the first
 pub first_even : (f : Rule) (n a m b : Bool) → unsettled_by f n a m b ≡ true → (n && not a) ≡ false → differ (f a false) (f a true) ≡ true
-first_even f n a m b e z = second_even (turned f) m b n a (either_way f n a m b ∙ e) z
+first_even f n a m b e z = second_even (exchanged f) m b n a (either_way f n a m b ∙ e) z
 
 -- and so the word of the other side is kept or turned over
 pub kept_or_turned : (f : Rule) (c : Bool) (x : ℕ) → x < 2 ^ 64 → differ (f false c) (f true c) ≡ true
@@ -122,9 +122,9 @@ kept_or_turned f c x h d = sym (on_is f x (cond c (2 ^ 64 - 1) 0) _ (below (f fa
     bits i l true e = bit_not 64 x i h l ∙ value true (bit x i) e
     bits i l false e = value false (bit x i) e
 
-pub turned_words : (f : Rule) (x y : ℕ) → on_words f x y ≡ on_words (turned f) y x
+pub exchanged_words : (f : Rule) (x y : ℕ) → on_words f x y ≡ on_words (exchanged f) y x
 unfolding on_words
-turned_words f x y = refl
+exchanged_words f x y = refl
 
 -- ---- the parts split
 

@@ -15,7 +15,7 @@ use Rattle.combine.specs.Inner.{unsettled_at, full_at, mixed_at, lone_at, read_w
 use Rattle.combine.specs.declared.rule.Masks.{Masks}
 use Rattle.combine.specs.declared.rule.Split.{Split}
 use Rattle.combine.specs.declared.block.Paired.{Paired}
-use Rattle.combine.proofs.RuleMasks.{minus, on_lt, on_bit, turned, second_even, first_even, kept_or_turned, turned_words}
+use Rattle.combine.proofs.RuleMasks.{minus, on_lt, on_bit, exchanged, second_even, first_even, kept_or_turned, exchanged_words}
 use Rattle.combine.proofs.Gathered.{valid_at, unsettled_in, unsettled_here, split_sum}
 
 -- ---- a word on one side
@@ -75,8 +75,8 @@ module _ (f : Rule) (x : Masks) (l : List ℕ) (y : Masks) (k : List ℕ) (i : �
 
       pub made_second : get_or k i 0 < 2 ^ 64 → mixed_at x i ≡ false → mixed_at y i ≡ true → made_word f x l y k i ≡ lone_word k (on_words f x.full 0) i
       made_second n p q =
-          made_unsettled u ∙ ap₂ (on_words f) (read_even x l i p) (read_mixed y k i q) ∙ turned_words f _ _
-          ∙ kept_or_turned (turned f) (bit x.full i) (get_or k i 0) n (first_even f _ _ _ _ u p)
+          made_unsettled u ∙ ap₂ (on_words f) (read_even x l i p) (read_mixed y k i q) ∙ exchanged_words f _ _
+          ∙ kept_or_turned (exchanged f) (bit x.full i) (get_or k i 0) n (first_even f _ _ _ _ u p)
           ∙ ap (λ (b : Bool). cond b (ALL - get_or k i 0) (get_or k i 0)) (sym (on_bit f x.full 0 i h ∙ ap (f (bit x.full i)) (bit_zero i)))
 
 -- a settled word is all ones or 0
