@@ -14,8 +14,8 @@ ghost use Rattle.combine.specs.Rules.{both, either, without};
 ghost use Rattle.capi.specs.Exports.{CapacityTold, LenTold, GetTold, SetTold, AssignTold, CountTold, NextTold, SelectTold, ClearTold, AuditTold, CombineTold};
 
 use answers::Changed;
-use combine::{Both, Either, Without, combine};
 use capi_told::{KladoAnswer, KladoFound, KladoSet, KladoSetAnswer};
+use combine::{Both, Either, Without, combine};
 use range_bitset::RangeBitset;
 
 #[unsafe(no_mangle)]
