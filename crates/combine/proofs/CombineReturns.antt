@@ -90,22 +90,6 @@ module _ (h : RangeBitset) (e : head_refusal h ≡ 0) where
   pub parts_given : (k : Refusal) → PartsEnsures h (Err k) → ⊥
   parts_given k s = number_some k (s.refuses ∙ e)
 
--- ---- refused
-
-pub refused_returns : (f : Rule) (h : RangeBitset) (st : List ℕ) (k : RangeBitset) (su third scratch : List ℕ) (r : Refusal)
-    → number_of r ≡ combine_refusal h k (length st) (length su) (length third) (length scratch) → CombineEnsures f h st k su third scratch (Err r) third scratch
-refused_returns f h st k su third scratch r e =
-    record {
-      refuses = e;
-      unchanged = λ n. (refl, refl);
-      begun = λ h' q. cc;
-      same_length = refl;
-      third_kept = refl;
-      scratch_kept = refl;
-      head = λ z. absurd (number_some r z);
-      represents = λ z. absurd (number_some r z);
-    }
-
 -- ---- accepted
 
 -- a side read as the code reads it tells the set that the memory represents
