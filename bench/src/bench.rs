@@ -4,9 +4,13 @@
 //! turn, ROUNDS times; each side's least time counts. The Rust is called as Rust calls it, inlined where the compiler
 //! likes; the port through C, with its refusal checks and its head in and out by value. Both sides must give the same sum of
 //! answers. The loop draws its random numbers as it goes, the same for both, so `loop alone` is in every figure: it is
-//! printed, and not taken off. The Rust has no select and no combinations; their rows have tables of their own (select.rs, combine.rs).
+//! printed, and not taken off. The Rust has no select, no combinations and no estimate; their rows have tables of their own (select.rs, combine.rs,
+//! estimate.rs).
 
 mod combine;
+mod estimate;
+#[path = "../../oracle/src/ledger_port.rs"]
+mod ledger_port;
 #[path = "../../oracle/src/original.rs"]
 mod original;
 #[path = "../../oracle/src/port.rs"]
@@ -354,4 +358,5 @@ fn main() {
     println!("geometric mean of the {} ratios {mean:.3}, the largest {worst:.3}; all sums agree", rows.len());
     select::table(calls, rounds).unwrap_or_else(differ);
     combine::table(calls, rounds).unwrap_or_else(differ);
+    estimate::table(calls / 8, rounds).unwrap_or_else(differ);
 }

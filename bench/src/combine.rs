@@ -15,7 +15,7 @@ type Trial = super::trial::Trial;
 #[cfg(not(trial))]
 type Trial = Nothing;
 
-const SETS: usize = 8;
+pub const SETS: usize = 8;
 const RULES: [&str; 3] = ["both", "either", "without"];
 
 /// A set that can be combined with another into a third: how many positions the third has.
@@ -95,7 +95,7 @@ impl<const COUNTS: bool> Plain<COUNTS> {
 }
 
 /// Sets filled by ranges of up to `fill` positions, the same on every side.
-fn filled<S: Set>(capacity: usize, fill: u64, assignments: u64) -> Vec<S> {
+pub fn filled<S: Set>(capacity: usize, fill: u64, assignments: u64) -> Vec<S> {
     let mut random = 1;
     let mut draw = || {
         random = drawn(random);

@@ -23,7 +23,7 @@ mod rules;
 
 use guarded::*;
 use lent::*;
-use made_set::Made;
+use made_set::{Made, any_capacity};
 use port::*;
 use random::Random;
 
@@ -69,10 +69,6 @@ struct Target<'a> {
     scratch: Lent<'a, u64>,
 }
 
-fn bad(head: Head) -> bool {
-    !head.words.is_power_of_two() || head.words > 4096 || head.len > 64 * head.words
-}
-
 /// 02's refusals in their order.
 fn refusal(case: &Case) -> u32 {
     let (first, second) = (case.first, case.second);
@@ -111,12 +107,6 @@ fn combine(case: Case, rule: &Rule, first: &mut Lent<u64>, second: &mut Lent<u64
     accepted.then_some(answer.head)
 }
 
-/// The set's positions, by `get`.
-fn positions(storage: &Lent<u64>, head: Head) -> Vec<bool> {
-    let get = |at| unsafe { klado_set_get(head, storage.first(), storage.len(), at) };
-    (0..64 * head.words as usize).map(|at| get(at).value == 1).collect()
-}
-
 /// The third is the plain combination of the two, and sound.
 fn is_combined(case: Case, rule: &Rule, first: &[bool], second: &[bool], third: &mut Lent<u64>, head: Head) {
     let wanted: Vec<bool> = first.iter().zip(second).map(|(&first, &second)| (rule.has)(first, second)).collect();
@@ -128,10 +118,6 @@ fn is_combined(case: Case, rule: &Rule, first: &[bool], second: &[bool], third: 
     }
     is_sound(case, third, head);
     same(case, "by 01's rules the third is sound:", rules::sound(head, third.numbers()), true);
-}
-
-fn sound(storage: &Lent<u64>, head: Head) -> bool {
-    unsafe { klado_set_audit(head, storage.first(), storage.len()) }.value == 1
 }
 
 fn lens(first: &Lent<u64>, second: &Lent<u64>, target: &Target) -> [usize; 4] {
@@ -147,29 +133,12 @@ fn scratch_len(random: &mut Random, words: usize) -> usize {
     }
 }
 
-/// One side on memory that is not sound: random numbers, or a set that some ranges make. Answers its head.
-fn any_side<'a>(room: &'a mut Room<u64>, random: &mut Random, words: usize) -> (Head, Lent<'a, u64>) {
-    let len = slice_len(random, words);
-    let mut storage = Lent::new("a source", room, random, len, filling);
-    if random.once_in(3) {
-        return (any_head(random, words), storage);
-    }
-    let mut head = unsafe { klado_set_new(64 * words) }.head;
-    for _ in 0..random.below(12) {
-        let (start, end) = (position(random, 64 * words), position(random, 64 * words));
-        let answer = unsafe { klado_set_assign(head, storage.first(), len, start, end, !random.once_in(3)) };
-        head = answer.head;
-    }
-    storage.hold(0..needed(words).min(len), head);
-    (head, storage)
-}
-
 /// A round on memory that is not sound, mostly. Answers how many calls.
 fn loose_round(rooms: &mut Rooms, random: &mut Random, seed: u64, done: u64) -> u64 {
     let words = 1 << if random.once_in(24) { random.below(13) } else { random.below(8) };
     let others = if random.once_in(8) { 1 << random.below(13) } else { words };
-    let (mut head, mut first) = any_side(&mut rooms.first, random, words);
-    let (mut beside, mut second) = any_side(&mut rooms.second, random, others);
+    let (mut head, mut first) = any_side("the first", &mut rooms.first, random, words);
+    let (mut beside, mut second) = any_side("the second", &mut rooms.second, random, others);
     let third_len = slice_len(random, words);
     let third = Lent::new("the third", &mut rooms.third, random, third_len, filling);
     let len = scratch_len(random, words);
@@ -209,14 +178,6 @@ fn echo(first: &Made, second: &mut Made, alike: bool) {
         start = end;
     }
     second.storage.hold(0..needed(second.has.len() / 64), second.head);
-}
-
-fn any_capacity(random: &mut Random) -> usize {
-    match random.below(128) {
-        0 => 262144,
-        1..=12 => 64 << random.below(13),
-        _ => [64, 128, 256, 4096, 8192, 16384][random.below(6)],
-    }
 }
 
 /// A round on sets that calls make. Answers how many calls.

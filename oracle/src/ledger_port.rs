@@ -1,5 +1,5 @@
-//! The port's ledger and the writer of saved lists through their C interface (include/kladomyne.h), from the archive that
-//! `rt lib` makes in crates/capi_ledger.
+//! The port's ledger, the writer of saved lists and the estimate through their C interface (include/kladomyne.h), from the archive
+//! that `rt lib` makes in crates/capi_ledger.
 
 use crate::port::{Answer, Head};
 
@@ -25,6 +25,22 @@ pub struct Opened {
     pub refused: u32,
     pub run: u64,
     pub head: Ledger,
+}
+
+#[repr(C)]
+#[derive(Clone, Copy, Debug, PartialEq, Eq)]
+pub struct Estimate {
+    pub pence: u32,
+    pub sheets: u32,
+    pub classes: [u32; 5],
+}
+
+#[repr(C)]
+#[derive(Clone, Copy, Debug, PartialEq, Eq)]
+pub struct Estimated {
+    pub refused: u32,
+    pub position: u64,
+    pub estimate: Estimate,
 }
 
 #[allow(dead_code)]
@@ -96,4 +112,13 @@ unsafe extern "C" {
         file: *mut u8,
         file_len: usize,
     ) -> Answer;
+    pub fn klado_estimate_price(
+        head: Head,
+        storage: *const u64,
+        storage_len: usize,
+        edges: *const u16,
+        edges_len: usize,
+        start: usize,
+        end: usize,
+    ) -> Estimated;
 }

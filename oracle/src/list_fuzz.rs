@@ -31,7 +31,7 @@ use files::*;
 use guarded::*;
 use ledger_port::*;
 use lent::*;
-use made_set::Made;
+use made_set::{Made, any_capacity};
 use memory::*;
 use port::*;
 use random::Random;
@@ -150,12 +150,6 @@ fn list_of(has: &[bool]) -> Vec<u8> {
     saved((capacity / 64) as u16, &runs)
 }
 
-/// The set's positions, by `get`.
-fn positions(storage: &Lent<u64>, head: Head) -> Vec<bool> {
-    let get = |at| unsafe { klado_set_get(head, storage.first(), storage.len(), at) };
-    (0..64 * head.words as usize).map(|at| get(at).value == 1).collect()
-}
-
 /// A head with one field changed.
 fn near_head(random: &mut Random, head: Head) -> Head {
     match random.below(5) {
@@ -245,14 +239,6 @@ fn loose_round(desk: &mut Desk, random: &mut Random, seed: u64, done: u64) -> u6
         }
     }
     case.call - done
-}
-
-fn any_capacity(random: &mut Random) -> usize {
-    match random.below(128) {
-        0 => 262144,
-        1..=12 => 64 << random.below(13),
-        _ => [64, 128, 256, 4096, 8192, 16384][random.below(6)],
-    }
 }
 
 /// Opens a list with J and slices on both sides of their limits. Gives the call, its memory and what it answered.

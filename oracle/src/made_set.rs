@@ -9,6 +9,15 @@ use crate::random::Random;
 const WORD: usize = 64;
 const BLOCK: usize = 4096;
 
+/// A capacity for such a set, mostly a small one.
+pub fn any_capacity(random: &mut Random) -> usize {
+    match random.below(128) {
+        0 => 262144,
+        1..=12 => 64 << random.below(13),
+        _ => [64, 128, 256, 4096, 8192, 16384][random.below(6)],
+    }
+}
+
 pub struct Made<'a> {
     pub head: Head,
     pub storage: Lent<'a, u64>,

@@ -2,7 +2,7 @@
 use Rattle.std.specs.Prelude.{ℕ, Option, Some, None, Result, Ok, Err}
 use Rattle.positions.specs.Replies.{Reply, number, nothing, refusal}
 use Rattle.answers.specs.declared.Refusal.{Refusal}
-use Rattle.answers.specs.declared.Refusal.TheVariants.{Size, Head, Short, Outside, NoCall, JournalFull, BadFile, NoRoom, OtherCapacity, ShortScratch}
+use Rattle.answers.specs.declared.Refusal.TheVariants.{Size, Head, Short, Outside, NoCall, JournalFull, BadFile, NoRoom, OtherCapacity, ShortScratch, FewEdges}
 use Rattle.answers.specs.declared.Changed.{Changed}
 
 abbrev pub number_of : Refusal → ℕ
@@ -16,6 +16,7 @@ number_of BadFile = 7
 number_of NoRoom = 9
 number_of OtherCapacity = 10
 number_of ShortScratch = 11
+number_of FewEdges = 12
 
 -- the number by which an answer refuses, or 0
 abbrev pub refused_by : {A : Type 0} → Result A Refusal → ℕ

@@ -7,7 +7,8 @@
 ghost use Rattle.std.specs.Prelude.{◌≡◌};
 ghost use Rattle.answers.specs.Refusals.{number_of};
 
-// Why a call is refused. The bad run of a saved list, 8, comes with its index and is of those that open one.
+// Why a call is refused. Two reasons come with a number, and each is of those that give it: 8, with the index of a saved list's bad run, and
+// 13, with the position of a sheet that has no edge.
 #[derive(Clone, Copy, Debug, PartialEq, Eq)]
 pub enum Refusal {
     // The capacity is none that there is, or the journal is longer than any.
@@ -30,6 +31,8 @@ pub enum Refusal {
     OtherCapacity = 10,
     // The scratch is shorter than the call needs.
     ShortScratch = 11,
+    // The list of edges is shorter than the capacity.
+    FewEdges = 12,
 }
 
 impl From<Refusal> for u8 {

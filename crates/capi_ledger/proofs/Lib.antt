@@ -2,3 +2,4 @@
 mod Kit
 pub mod LedgerHeader
 pub mod ListHeader
+pub mod EstimateHeader

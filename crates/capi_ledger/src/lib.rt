@@ -1,6 +1,6 @@
-// The entries of the ledger, and of the writer of saved lists, for C and C++: include/kladomyne.h has the same structs and calls, in C's
-// words. A head goes in and comes back by value; a lent slice is a pointer and a count; an answer is a struct of numbers. Each export
-// calls the entry of its name in ledger, or the crate list_writer, and hands its answer over in those numbers, and nothing else:
+// The entries of the ledger, of the writer of saved lists and of the estimate, for C and C++: include/kladomyne.h has the same structs and
+// calls, in C's words. A head goes in and comes back by value; a lent slice is a pointer and a count; an answer is a struct of numbers. Each export
+// calls the entry of its name in ledger, list_writer or estimate, and hands its answer over in those numbers, and nothing else:
 // specs/LedgerTold.antt has the definitions. They are alike but for the call: C has no generics, and each name has its own promise.
 // Assumes what the header says that the caller owes, and nothing of heads, numbers and arguments: no export has a `requires`.
 #![tactic(auto)]
@@ -8,10 +8,11 @@
 ghost use Rattle.std.specs.Prelude.{◌≡◌, true, false, length};
 ghost use Rattle.ledger.specs.Machine.{range, back, point};
 ghost use Rattle.ledger.specs.Entries.{new_of as new_ledger_of};
-ghost use Rattle.capi_ledger.specs.LedgerTold.{ledger_of, ledger_head, told_new, told_opened, told_called, CallTold, WipeTold, OpenTold, WriteTold};
+ghost use Rattle.capi_ledger.specs.LedgerTold.{ledger_of, ledger_head, told_new, told_opened, told_called, estimate_of, told_estimated, CallTold, WipeTold, OpenTold, WriteTold, EstimateTold};
 
 use answers::{Changed, Refusal};
 use capi_told::{KladoAnswer, KladoSet};
+use estimate::{Estimate, NotPriced};
 use ledger::{Ledger, NotOpened};
 use range_bitset::RangeBitset;
 
@@ -41,6 +42,30 @@ pub struct KladoOpened {
     pub run: u64,
     pub head: KladoLedger,
 }
+
+// What an order costs: its pence, its sheets, and the sheets of each class.
+#[repr(C)]
+#[derive(Clone, Copy, Debug, PartialEq, Eq)]
+pub struct KladoEstimate {
+    pub pence: u32,
+    pub sheets: u32,
+    pub classes: [u32; 5],
+}
+
+// What the estimate gives: beside a refusal stand seven zeros.
+#[repr(C)]
+#[derive(Clone, Copy, Debug, PartialEq, Eq)]
+pub struct KladoEstimated {
+    pub refused: u32,
+    pub position: u64,
+    pub estimate: KladoEstimate,
+}
+
+const NO_ESTIMATE: KladoEstimate = KladoEstimate {
+    pence: 0,
+    sheets: 0,
+    classes: [0, 0, 0, 0, 0],
+};
 
 // A head in C's struct as the ledger's own, and back.
 impl From<KladoLedger> for Ledger {
@@ -90,6 +115,37 @@ impl From<Result<Ledger, Refusal>> for KladoOpened {
 
     fn from(answer: Result<Ledger, Refusal>) -> KladoOpened {
         KladoOpened::from(answer.map_err(NotOpened::from))
+    }
+}
+
+impl From<Estimate> for KladoEstimate {
+    ghost from_gives = { λ order estimate. estimate ≡ estimate_of order };
+
+    fn from(order: Estimate) -> KladoEstimate {
+        let classes = order.classes;
+        KladoEstimate {
+            pence: order.pence,
+            sheets: order.sheets,
+            classes,
+        }
+    }
+}
+
+// The answer in C's numbers: a position stands beside 13 alone.
+impl From<Result<Estimate, NotPriced>> for KladoEstimated {
+    ghost from_gives = { λ answer told. told ≡ told_estimated answer };
+
+    fn from(answer: Result<Estimate, NotPriced>) -> KladoEstimated {
+        let (refused, position, estimate) = match answer {
+            Ok(order) => (0, 0, KladoEstimate::from(order)),
+            Err(NotPriced::Refused(refusal)) => (u8::from(refusal) as u32, 0, NO_ESTIMATE),
+            Err(NotPriced::Unmeasured(position)) => (13, position as u64, NO_ESTIMATE),
+        };
+        KladoEstimated {
+            refused,
+            position,
+            estimate,
+        }
     }
 }
 
@@ -216,4 +272,17 @@ pub extern "C" fn klado_list_write(head: KladoSet, storage: &[u64], file: &mut [
     ensures { WriteTold head storage.now file.old result file.new }
 {
     list_writer::write(RangeBitset::from(head), storage, file).into()
+}
+
+#[unsafe(no_mangle)]
+pub extern "C" fn klado_estimate_price(
+    head: KladoSet,
+    storage: &[u64],
+    edges: &[u16],
+    start: usize,
+    end: usize,
+) -> KladoEstimated
+    ensures { EstimateTold head storage.now edges.now start end result }
+{
+    estimate::price(RangeBitset::from(head), storage, edges, start, end).into()
 }

@@ -14,28 +14,13 @@ use Rattle.range_bitset.specs.Shown.{parts_of, PartsEnsures}
 use Rattle.range_bitset.specs.declared.Parts.{Parts}
 use Rattle.range_bitset.specs.declared.RangeBitset.{RangeBitset}
 use Rattle.range_bitset.proofs.SetWords.{block_none, none_all_block}
+use Rattle.range_bitset.proofs.RefusalChains.{clear}
 use Rattle.combine.specs.Rules.{Rule, combined}
 use Rattle.combine.specs.Entry.{combine_refusal, CombineEnsures}
 use Rattle.combine.specs.Inner.{tops_of, Tells, MakesBlocks}
 use Rattle.combine.specs.declared.rule.Masks.{Masks}
 use Rattle.combine.specs.declared.source.Source.{Source}
 use Rattle.combine.proofs.SettledParts.{same_word}
-
--- ---- one refusal before the next
-
-pub stop : (r : Refusal) (k next : ℕ) → number_of r ≡ k → number_of r ≡ first_of k next
-stop r k next e = e ∙ sym (ap (λ (b : Bool). cond b next k) (ne_eqb k 0 (λ z. number_some r (e ∙ z))))
-
-pub pass : (k next : ℕ) → 0 ≡ k → next ≡ first_of k next
-pass k next e = sym (ap (λ (b : Bool). cond b next k) (eq-eqb k 0 (sym e)))
-
--- where none is left, neither was
-clear : (k next : ℕ) → first_of k next ≡ 0 → (k ≡ 0) × (next ≡ 0)
-clear k next e = by (eqb k 0) refl e
-  where
-    by : (b : Bool) → eqb k 0 ≡ b → cond b next k ≡ 0 → (k ≡ 0) × (next ≡ 0)
-    by true p z = (eqb-true k 0 p, z)
-    by false p z = absurd (true≢false (sym (eq-eqb k 0 z) ∙ p))
 
 -- ---- the last two tests, on the word counts and the scratch
 

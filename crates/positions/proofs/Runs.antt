@@ -1,6 +1,6 @@
 -- Laws of runs: they cover the set, they are the only ascending list that does, their lengths sum to the count,
 -- and giving the changed runs the other value back undoes a call. Assumes nothing.
-use Rattle.positions.proofs.Kit.{◌≡◌, refl, sym, ◌∙◌, fun_ext, subst, ◌≢◌, Bool, true, false, not, cond, ◌&&◌, true≢false, false≢true, List, [], ◌∷◌, ℕ, zero, suc, ◌+◌, ◌-◌, ◌≤◌, ◌<◌, add-zero, add-suc, suc-add, arith, ltb-true, ltb-false, leb-true, leb-false, le-leb, eqb-true, eqb-false, eq-eqb, ne_eqb, leb, ltb, eqb}
+use Rattle.positions.proofs.Kit.{◌≡◌, refl, sym, ap, ◌∙◌, fun_ext, subst, ◌≢◌, Bool, true, false, not, cond, ◌&&◌, true≢false, false≢true, List, [], ◌∷◌, ℕ, zero, suc, ◌+◌, ◌-◌, ◌≤◌, ◌<◌, add-zero, add-suc, suc-add, arith, ltb-true, ltb-false, leb-true, leb-false, le-leb, eqb-true, eqb-false, eq-eqb, ne_eqb, leb, ltb, eqb, length}
 use Rattle.positions.specs.Positions.{Positions, within, assigned, count, differ, lacking}
 use Rattle.positions.specs.Runs.{Run, run, glued, runs_from, runs, changed_runs, assigned_runs, covered, lengths, Ascending, Covers}
 use Rattle.positions.proofs.Ranges.{Place, inside, before, behind, place, within_in, within_before, within_behind, Same, here, off, same, within_more, within_none}
@@ -252,3 +252,32 @@ runs_next d a p q e h k l low mid stop =
         go (inside x y w) = rw (w, mid i x y)
         go (before x w) = rw (w, runs_covered d q e i, within_before q e i (omega arith), low i u x)
         go (behind x w) = rw (w, runs_covered d q e i, within_in q e i x v)
+
+-- and what a first run tells: where it lies, and which positions the set has up to its end
+pub record FirstRun (d : Positions) (a e p q : ℕ) : Type 0 where
+  pub low : a ≤ p
+  pub some : p < q
+  pub high : q ≤ e
+  pub own : (i : ℕ) → a ≤ i → i < q → d i ≡ within p q i
+
+pub first_run : (d : Positions) (a e p q : ℕ) (rs : List Run) → runs d a e ≡ run p q ∷ rs → FirstRun d a e p q
+first_run d a e p q rs h = by (leb a e) refl
+  where
+    known : Ascending a e (run p q ∷ rs) → FirstRun d a e p q
+    known m = record { low = m.0; some = m.1; high = m.2; own = each }
+      where
+        itself : (b : Bool) → cond b true false ≡ b
+        itself true = refl
+        itself false = refl
+
+        each : (i : ℕ) → a ≤ i → i < q → d i ≡ within p q i
+        each i u v = sym (rw (h, within_in a e i u (omega (arith, m.2)), covered_below (suc q) e rs m.3 i (omega arith)) at (runs_covered d a e i)) ∙ itself (within p q i)
+
+    by : (b : Bool) → leb a e ≡ b → FirstRun d a e p q
+    by true x = known (rw h at (runs_ascending d a e (leb-true a e x)))
+    by false x =
+        let l : e < a = leb-false a e x in
+        absurd (omega (arith, ap length (sym (runs_empty d a e (omega arith)) ∙ h)))
+
+pub no_runs : (d : Positions) (a e : ℕ) → runs d a e ≡ [] → (i : ℕ) → a ≤ i → i < e → d i ≡ false
+no_runs d a e h i u v = sym (rw (h, within_in a e i u v) at (runs_covered d a e i))

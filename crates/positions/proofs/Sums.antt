@@ -1,6 +1,7 @@
 -- The laws of `sum_over`, a sum over a set's positions in a range. Assumes nothing.
 use Rattle.positions.proofs.Kit.{◌≡◌, refl, sym, ap, ap₂, ◌∙◌, Bool, true, false, not, ◌&&◌, and-false, ℕ, zero, suc, ◌+◌, ◌-◌, ◌*◌, ◌≤◌, ◌<◌, zero-le, add-zero, zero-add, le_of_eq, mul-zero, arith, eqb-true, eq-eqb, ne_eqb, eqb}
-use Rattle.positions.specs.Positions.{only_if, sum_over}
+use Rattle.positions.specs.Positions.{within, total, only_if, sum_over}
+use Rattle.positions.proofs.Ranges.{within_in, within_before}
 use Rattle.positions.proofs.Totals as T
 
 -- ---- one term
@@ -51,6 +52,25 @@ module _ (s : ℕ → Bool) (f : ℕ → ℕ) where
   pub over_none : (a n : ℕ) → ((i : ℕ) → a ≤ i → i < a + n → s i ≡ false) → sum_over s f a n ≡ 0
   unfolding sum_over
   over_none a n h = T.total_const (λ i. only_if (s i) (f i)) 0 a n (λ i l k. ap (λ (b : Bool). only_if b (f i)) (h i l k)) ∙ mul-zero n
+
+  pub over_all : (a n : ℕ) → ((i : ℕ) → a ≤ i → i < a + n → s i ≡ true) → sum_over s f a n ≡ total f a n
+  unfolding sum_over
+  over_all a n h = T.total_ext (λ i. only_if (s i) (f i)) f a n (λ i l k. ap (λ (b : Bool). only_if b (f i)) (h i l k))
+
+  -- one stretch p..q of the set alone, and what lies before it
+  pub over_stretch : (a b p q : ℕ) → a ≤ b → b ≤ p → p ≤ q → ((i : ℕ) → b ≤ i → i < q → s i ≡ within p q i)
+      → sum_over s f a (q - a) ≡ sum_over s f a (b - a) + total f p (q - p)
+  over_stretch a b p q h k l own =
+      let n : q - a ≡ (b - a) + ((p - b) + (q - p)) = omega arith in
+      let here : a + (b - a) ≡ b = omega arith in
+      let there : b + (p - b) ≡ p = omega arith in
+      rw (n, over_add a (b - a) ((p - b) + (q - p)), here, over_add b (p - b) (q - p), there, before, whole) (ap (◌+◌ (sum_over s f a (b - a))) (zero-add (total f p (q - p))))
+    where
+      before : sum_over s f b (p - b) ≡ 0
+      before = over_none b (p - b) (λ i u v. own i u (omega arith) ∙ within_before p q i (omega arith))
+
+      whole : sum_over s f p (q - p) ≡ total f p (q - p)
+      whole = over_all p (q - p) (λ i u v. own i (omega arith) (omega arith) ∙ within_in p q i u (omega arith))
 
 -- ---- two functions, two sets
 

@@ -13,6 +13,7 @@ use Rattle.range_bitset.specs.Answers.{allowed_capacity, good_head, head_refusal
 use Rattle.range_bitset.specs.Entries.{of_head}
 use Rattle.range_bitset.specs.Inner.{Room}
 use Rattle.range_bitset.specs.declared.RangeBitset.{RangeBitset}
+use Rattle.range_bitset.proofs.RefusalChains.{stop, clear}
 
 one_pos : (W : ℕ) → ones W ≡ 1 → 0 < W
 unfolding ones
@@ -129,37 +130,33 @@ fresh_represents W st =
 
 -- ---- a range, and a point
 
--- a chain that gives 0 gives 0 at each link
-chain : (k : ℕ) (t : Bool) → first_of k (cond t 0 4) ≡ 0 → (k ≡ 0) × (t ≡ true)
-chain k t e = by (eqb k 0) refl t refl e
+-- an accepted call's own test held
+held : (k : ℕ) (t : Bool) → first_of k (cond t 0 4) ≡ 0 → (k ≡ 0) × (t ≡ true)
+held k t e = let c = clear k (cond t 0 4) e in (c.0, by t c.1)
   where
-    by : (z : Bool) → eqb k 0 ≡ z → (u : Bool) → t ≡ u → cond z (cond u 0 4) k ≡ 0 → (k ≡ 0) × (t ≡ true)
-    by true p true q z = (eqb-true k 0 p, q)
-    by true p false q z = absurd (omega arith)
-    by false p u q z = absurd (eqb-false k 0 p z)
+    by : (t : Bool) → ◌≡◌ {A = ℕ} (cond t 0 4) 0 → t ≡ true
+    by true z = refl
+    by false z = absurd (omega arith)
 
 -- what refuses head and storage refuses a call with a range or a point too
-first_refused : (k : Refusal) (n : ℕ) (next : ℕ) → number_of k ≡ n → number_of k ≡ first_of n next
-first_refused k n next e = rw (ne_eqb n 0 (λ z. number_some k (e ∙ z)), e)
-
 pub range_first : (h : RangeBitset) (n e : ℕ) (k : Refusal) → number_of k ≡ storage_refusal h n → number_of k ≡ range_refusal h n e
 unfolding range_refusal
-range_first h n e k z = first_refused k _ _ z
+range_first h n e k z = stop k _ _ z
 
 pub point_first : (h : RangeBitset) (n i : ℕ) (k : Refusal) → number_of k ≡ storage_refusal h n → number_of k ≡ point_refusal h n i
 unfolding point_refusal
-point_first h n i k z = first_refused k _ _ z
+point_first h n i k z = stop k _ _ z
 
 pub range_accepted : (h : RangeBitset) (st : List ℕ) (e : ℕ) → range_refusal h (length st) e ≡ 0 → Room h.words st × (e ≤ capacity_of h)
 unfolding range_refusal
 range_accepted h st e z =
-    let p = chain (storage_refusal h (length st)) (leb e (capacity_of h)) z in
+    let p = held (storage_refusal h (length st)) (leb e (capacity_of h)) z in
     (accepted h st p.0, leb-true e (capacity_of h) p.1)
 
 pub point_accepted : (h : RangeBitset) (st : List ℕ) (i : ℕ) → point_refusal h (length st) i ≡ 0 → Room h.words st × (i < capacity_of h)
 unfolding point_refusal
 point_accepted h st i z =
-    let p = chain (storage_refusal h (length st)) (ltb i (capacity_of h)) z in
+    let p = held (storage_refusal h (length st)) (ltb i (capacity_of h)) z in
     (accepted h st p.0, ltb-true i (capacity_of h) p.1)
 
 -- an accepted storage is accepted with an end up to the capacity, and with a point below it

@@ -1,5 +1,6 @@
 -- The set's laws. Assumes nothing.
 mod Kit
+pub mod RefusalChains
 pub mod AcceptedHeads
 pub mod Slots
 pub mod SetWords

@@ -69,7 +69,8 @@ impl RangeBitset {
         Ok(())
     }
 
-    pub(crate) fn check_range(self, len: usize, end: usize) -> Result<(), Refusal>
+    // The tests of a call that has a range.
+    pub fn check_range(self, len: usize, end: usize) -> Result<(), Refusal>
         ensures { refused_by result ≡ range_refusal self len end }
     {
         self.check_storage(len)?;

@@ -2,7 +2,8 @@
 use Rattle.combine.proofs.Kit.{◌∙◌}
 use Rattle.answers.proofs.Numbers.{passed_on}
 use Rattle.combine.specs.Entry.{combine_refusal}
-use Rattle.combine.proofs.CombineReturns.{stop, pass, last_10, last_11, last_0}
+use Rattle.range_bitset.proofs.RefusalChains.{stop, pass}
+use Rattle.combine.proofs.CombineReturns.{last_10, last_11, last_0}
 use Rattle.combine.proofs.check.Goals as goal
 
 pub returns-in_err-check_head : goal.returns-in_err-check_head

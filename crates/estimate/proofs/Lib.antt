@@ -1,0 +1,6 @@
+-- The laws of the estimate. Assumes nothing.
+mod Kit
+pub mod Laws
+pub mod AddedSheets
+pub mod NextRuns
+pub mod EstimateReturns
