@@ -1,6 +1,7 @@
 -- The laws of the estimate. Assumes nothing.
 mod Kit
 pub mod Laws
+pub mod Examples
 pub mod AddedSheets
 pub mod NextRuns
 pub mod EstimateReturns

@@ -62,12 +62,12 @@ impl Estimate {
     }
 }
 
-// The tests of a call on its numbers alone: a range of the set, and an edge for each position. `len` and `measured` are the lengths lent.
-fn check(set: RangeBitset, len: usize, measured: usize, end: usize) -> Result<(), Refusal>
-    ensures { refused_by result ≡ estimate_refusal set len measured end }
+// The tests of a call on its numbers alone: a range of the set, and an edge for each position. `len` and `edges` are the lengths lent.
+fn check(set: RangeBitset, len: usize, edges: usize, end: usize) -> Result<(), Refusal>
+    ensures { refused_by result ≡ estimate_refusal set len edges end }
 {
     set.check_range(len, end)?;
-    if measured < 64 * set.words as usize {
+    if edges < 64 * set.words as usize {
         return Err(Refusal::FewEdges);
     }
     Ok(())

@@ -9,10 +9,10 @@ pub returns-in_err-check_range : goal.returns-in_err-check_range
 unfolding estimate_refusal
 returns-in_err-check_range c = rw (passed_on _ c.from_residual.ensures.1) (stop _ _ _ c.in_err-check_range.ensures)
 
-pub returns-then-measured-set : goal.returns-then-measured-set
+pub returns-then-edges-set : goal.returns-then-edges-set
 unfolding estimate_refusal
-returns-then-measured-set c = rw (sym c.in_ok-check_range.ensures, lt-ltb _ _ c.if-measured-set.true) refl
+returns-then-edges-set c = rw (sym c.in_ok-check_range.ensures, lt-ltb _ _ c.if-edges-set.true) refl
 
 pub returns : goal.returns
 unfolding estimate_refusal
-returns c = rw (sym c.in_ok-check_range.ensures, le-ltb _ _ c.if-measured-set.false) refl
+returns c = rw (sym c.in_ok-check_range.ensures, le-ltb _ _ c.if-edges-set.false) refl
