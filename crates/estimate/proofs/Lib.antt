@@ -5,3 +5,4 @@ pub mod Examples
 pub mod AddedSheets
 pub mod NextRuns
 pub mod EstimateReturns
+pub mod SheetsLeft

@@ -36,9 +36,9 @@ AddsRun edges a e x (Err (why.Refused k)) = ⊥
 AddsRun edges a e x (Err (why.Unmeasured i)) = FirstUnmeasured edges a e i
 
 -- the runs that are left: none, or the one given and those behind it
-abbrev pub first_run : Option (Range ℕ) → List Run → List Run
-first_run None rs = []
-first_run (Some q) rs = run q.start q.end ∷ rs
+abbrev pub put_first : Option (Range ℕ) → List Run → List Run
+put_first None rs = []
+put_first (Some q) rs = run q.start q.end ∷ rs
 
 -- r is the next run of x, and x' stands behind it. On any memory it lies ahead, at or after where x stands and before x's end
 pub record StepsAhead (x : Runs) (r : Option (Range ℕ)) (x' : Runs) : Type 0 where
@@ -49,4 +49,4 @@ pub record StepsAhead (x : Runs) (r : Option (Range ℕ)) (x' : Runs) : Type 0 w
   pub ahead : (q : Range ℕ) → r ≡ Some q → (x.from ≤ q.start) × (q.start < q.end) × (q.end ≤ x.end) × (x'.from ≡ q.end)
   -- for every set that the memory represents: the first of the runs that are left, if there is one
   pub runs_left : range_refusal x.set (length x.storage.now) x.end ≡ 0 → (s : Positions) → Represents x.set x.storage.now s
-      → changed_runs s x.from x.end x.value ≡ first_run r (changed_runs s x'.from x.end x.value)
+      → changed_runs s x.from x.end x.value ≡ put_first r (changed_runs s x'.from x.end x.value)

@@ -4,7 +4,7 @@
 // Assumes nothing of its callers: the entry has no `requires`.
 #![tactic(auto)]
 
-ghost use Rattle.std.specs.Prelude.{◌≡◌, ◌≤◌, ◌-◌, length};
+ghost use Rattle.std.specs.Prelude.{◌≡◌, ◌≤◌, length};
 ghost use Rattle.answers.specs.Refusals.{refused_by};
 ghost use Rattle.estimate.specs.Entry.{AddsUp, estimate_refusal, EstimateEnsures};
 ghost use Rattle.estimate.specs.Inner.{AddsRun, StepsAhead};
@@ -80,7 +80,7 @@ fn next_ahead(runs: &mut Runs) -> Option<Range<usize>>
     let from = runs.from;
     let run = runs.next()?;
     let start = run.start as usize;
-    let end = runs.from;
+    let end = runs.from; // where the iterator stands now
     if start < from || end <= start || runs.end < end {
         return None;
     }
