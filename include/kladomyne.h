@@ -1,11 +1,11 @@
 /* Kladomyne's ledger library, for C and C++: the set of sheets, and the ledger, which is a set with an undo journal.
  *
- * Link libcapi.a for the calls klado_set_ and libcapi_ledger.a for the calls klado_ledger_, klado_list_ and klado_estimate_, which
- * `rt lib` makes in crates/capi and crates/capi_ledger, in their folders out/, on x86-64 Linux with the instructions of x86-64-v2; neither
- * needs a symbol from outside. examples/desk.c, examples/overnight.c and examples/order.c are short callers. The library allocates nothing, keeps nothing
- * between calls, and reads and writes only what the caller lends for the length of a call: calls may run in several threads
- * at once where they share no lent memory, or only such as each of them takes as `const`. Every symbol and type has the
- * prefix `klado_`.
+ * Link libcapi.a for the calls klado_set_ and libcapi_ledger.a for the calls klado_ledger_, klado_list_ and
+ * klado_estimate_, which `rt lib` makes in crates/capi and crates/capi_ledger, in their folders out/, on x86-64 Linux with
+ * the instructions of x86-64-v2; neither needs a symbol from outside. examples/desk.c, examples/overnight.c and
+ * examples/order.c are short callers. The library allocates nothing, keeps nothing between calls, and reads and writes only
+ * what the caller lends for the length of a call: calls may run in several threads at once where they share no lent memory,
+ * or only such as each of them takes as `const`. Every symbol and type has the prefix `klado_`.
  *
  * A set is a head, which goes in and comes back by value, and storage, which the caller owns and lends to each call.
  * It holds positions 0 up to its capacity, the capacity itself left out. A range start..end holds start and leaves
@@ -20,7 +20,8 @@
  * Heads, storage and journals hold numbers and no addresses: together they may be copied, moved or stored. A saved list is the
  * positions alone, in bytes that mean the same on every machine: klado_list_write makes one, klado_ledger_open reads it.
  *
- * An estimate is what it costs to scan the sheets of a range that a set has not, by the longest edge of each: klado_estimate_price.
+ * An estimate is what it costs to scan the sheets of a range that a set has not, by the longest edge of each:
+ * klado_estimate_price.
  *
  * What the caller owes. Nothing here can be checked by the library:
  *   - `storage` points to `storage_len` numbers and is aligned to 8 bytes, and so do `first_storage`, `second_storage`, `third` and
@@ -35,12 +36,13 @@
  * pair that these calls left behind: the head is the one that the last call gave, and the storage has not been written since,
  * nor, for a ledger, the journal's first U numbers. On any other memory an accepted call's answer, its head and the numbers
  * that it may write may be anything, but that a ledger's W and J stay, its U is at most J, a list's length is at most the
- * buffer's, a combined set's head has the first set's W and its flag, and an estimate's numbers agree with each other and count no more
- * sheets than the range has positions; and all that is said of refusals and of the other numbers still holds. (But for 6, 9 and 13, where
- * head and storage are not sound: there is no set to count runs by, or to have sheets left. 6 is never answered where as many runs fit as the range's n positions can
- * have, (n + 1) / 2, nor for a range of none; else it may be. 9 is answered where the buffer is under 11 bytes; never where it
- * has KLADO_LIST_MOST; between these it may be. 13 comes with a position of the range whose edge is 0.) What klado_set_audit, klado_ledger_new and klado_ledger_open promise is
- * promised on any memory.
+ * buffer's, a combined set's head has the first set's W and its flag, and an estimate's numbers agree with each other and
+ * count no more sheets than the range has positions; and all that is said of refusals and of the other numbers still holds.
+ * (But for 6, 9 and 13, where head and storage are not sound: there is no set to count runs by, or to have sheets left. 6
+ * is never answered where as many runs fit as the range's n positions can have, (n + 1) / 2, nor for a range of none; else
+ * it may be. 9 is answered where the buffer is under 11 bytes; never where it has KLADO_LIST_MOST; between these it may be.
+ * 13 comes with a position of the range whose edge is 0.) What klado_set_audit, klado_ledger_new and klado_ledger_open
+ * promise is promised on any memory.
  *
  * Refusals. Every answer opens with `refused`: 0, or the number of the first of these rules that is broken, in this order:
  *   1  new and open alone: the capacity is not 64 * W for a W that is a power of two from 1 to 4096, or J is above 16,384.
@@ -59,11 +61,13 @@
  *  10  combinations alone: the two sets' capacities differ.
  *  11  combinations alone: the scratch has less than W numbers.
  *  12  klado_estimate_price alone: there are fewer edges than the capacity has positions.
- *  13  klado_estimate_price alone: a position of the range that the set has not has the edge 0. `position` is the first such position.
+ *  13  klado_estimate_price alone: a position of the range that the set has not has the edge 0. `position` is the first such
+ *      position.
  * Open checks 7 (at least 11 bytes, mark, version), then 1, then 7 (11 + 8 * its run count), then 3, then 8.
- * A call that is refused writes nothing. Its other numbers are 0 (but for `run` with 8 and `position` with 13), and the head in its answer is the head
- * that it was given (for new, open and combinations a head of zeros, which every call refuses with 2). So a head can be replaced by
- * the answer's in every case, but that of a combination's third storage, which is no set's until the call is accepted.
+ * A call that is refused writes nothing. Its other numbers are 0 (but for `run` with 8 and `position` with 13), and the
+ * head in its answer is the head that it was given (for new, open and combinations a head of zeros, which every call
+ * refuses with 2). So a head can be replaced by the answer's in every case, but that of a combination's third storage,
+ * which is no set's until the call is accepted.
  *
  * A call that is accepted writes only the first KLADO_SET_STORAGE numbers of the storage, journal numbers from the old U up
  * to the new one, the buffer's bytes up to the length that klado_list_write answers, and of a combination the first KLADO_SET_STORAGE
@@ -275,10 +279,11 @@ typedef struct {
 } klado_estimated;
 
 /* What it costs to scan the positions of start..end that the set has not, or a ledger's set (`head.set`, with the ledger's storage).
- * `edges` has each position's longest edge in whole millimetres, 0 where it is not measured; edges past the capacity, and those of
- * positions that are not asked, may be anything. The number of sheets is the range's length less its count, and 0 where start is not below end;
- * the classes' sheets are together all the sheets, and each class's number at its price together the sum. The set, its storage and the
- * edges are only read. The work grows with those positions, and with two searches for each stretch of them. Refused: 2, 3, 4, 12, 13. */
+ * `edges` has each position's longest edge in whole millimetres, 0 where it is not measured; edges past the capacity, and
+ * those of positions that are not asked, may be anything. The number of sheets is the range's length less its count, and 0
+ * where start is not below end; the classes' sheets are together all the sheets, and each class's number at its price
+ * together the sum. The set, its storage and the edges are only read. The work grows with those positions, and with two
+ * searches for each stretch of them. Refused: 2, 3, 4, 12, 13. */
 klado_estimated klado_estimate_price(klado_set head, const uint64_t *storage, size_t storage_len, const uint16_t *edges,
                                      size_t edges_len, size_t start, size_t end);
 
