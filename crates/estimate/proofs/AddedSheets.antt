@@ -45,17 +45,17 @@ module _ (f g : Class → ℕ) where
 
 -- ---- the sheets of a..i, and then that of i
 
-module _ (edges : List ℕ) (a : ℕ) (x y : Estimate) where
-  pub added_none : AddsUp x → Adds edges a a x x
-  added_none u =
-      let n : a - a ≡ 0 = omega arith in
-      record {
-        adds_up = u;
-        sheets_are = omega arith;
-        classes_are = λ c. rw (n, total_zero (class_at edges c) a) (sym (add-zero (sheets_of x c)));
-        measured = λ i l h. absurd (omega arith);
-      }
+pub added_none : (edges : List ℕ) (a : ℕ) (x : Estimate) → AddsUp x → Adds edges a a x x
+added_none edges a x u =
+    let n : a - a ≡ 0 = omega arith in
+    record {
+      adds_up = u;
+      sheets_are = omega arith;
+      classes_are = λ c. rw (n, total_zero (class_at edges c) a) (sym (add-zero (sheets_of x c)));
+      measured = λ i l h. absurd (omega arith);
+    }
 
+module _ (edges : List ℕ) (a : ℕ) (x y : Estimate) where
   at_its_place : (i : ℕ) (k : Class) → a ≤ i → class_of (slice_index edges i) ≡ Some k → Adds edges a i x y
       → Adds edges a (i + 1) x (with_sheet y (price_of k) (place_of k))
   at_its_place i k l e u =

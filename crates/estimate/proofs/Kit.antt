@@ -8,6 +8,6 @@ pub use mathlib.Core.Bool.{Bool, ◌&&◌, cond, false, false≢true, not, true}
 pub use mathlib.Core.List.{List, [], ◌∷◌}
 pub use mathlib.Core.Logic.{◌≢◌, ◌⊎◌, inl, inr}
 pub use mathlib.Core.Path.{◌∙◌, ◌≡◌, ap, ap₂, refl, subst, sym}
-pub use native.Mathlib.Nat.{add-zero}
+pub use native.Mathlib.Nat.{add-zero, mul-add}
 pub use native.Mathlib.Decide.{dec_le, dec_lt}
 pub use native.Mathlib.Omega.{arith}

@@ -1,6 +1,6 @@
 -- What 02 says of an estimate, as laws of its definitions: every edge has one class, the number of sheets, the three answers among each other, the first
 -- sheet without an edge, and how large the sum can be. Assumes nothing.
-use Rattle.estimate.proofs.Kit.{◌≡◌, refl, sym, ap, ◌∙◌, subst, Bool, true, false, not, ◌&&◌, cond, false≢true, ℕ, zero, suc, ◌+◌, ◌*◌, ◌-◌, ◌≤◌, ◌<◌, List, arith, le-leb, lt-leb, leb, eqb, ne_eqb, eqb-true, eq-eqb, dec_le}
+use Rattle.estimate.proofs.Kit.{◌≡◌, refl, sym, ap, ◌∙◌, subst, Bool, true, false, not, ◌&&◌, cond, false≢true, ℕ, zero, suc, ◌+◌, ◌*◌, ◌-◌, ◌≤◌, ◌<◌, List, mul-add, arith, le-leb, lt-leb, leb, eqb, ne_eqb, eqb-true, eq-eqb, dec_le}
 use Rattle.std.specs.Prelude.{slice_index}
 use Rattle.std.proofs.Common.{Option, Some, None}
 use Rattle.positions.specs.Positions.{Positions, lacking, differ, only_if, one, sum_over, count, count_from, Place, found_at, first}
@@ -66,24 +66,22 @@ one_class e l h = by (dec_le e 420) (dec_le e 594) (dec_le e 841) (dec_le e 1189
 
 -- ---- the three answers among each other
 
--- one position's price, as those of all classes
-price_one : (b : Bool) (o : Option Class) → only_if b (price_in o) ≡ over_classes (λ c. price_of c * only_if b (one (is_of c o)))
-price_one false o = refl
-price_one true None = refl
-price_one true (Some A3) = refl
-price_one true (Some A2) = refl
-price_one true (Some A1) = refl
-price_one true (Some A0) = refl
-price_one true (Some Oversize) = refl
+-- what one position weighs, as what all classes do: its price, and 1 where it is measured
+price_one : (o : Option Class) → price_in o ≡ over_classes (λ c. price_of c * one (is_of c o))
+price_one None = refl
+price_one (Some A3) = refl
+price_one (Some A2) = refl
+price_one (Some A1) = refl
+price_one (Some A0) = refl
+price_one (Some Oversize) = refl
 
-sheet_one : (b : Bool) (o : Option Class) → (b ≡ true → o ≡ None → ⊥) → only_if b 1 ≡ over_classes (λ c. only_if b (one (is_of c o)))
-sheet_one false o h = refl
-sheet_one true None h = absurd (h refl refl)
-sheet_one true (Some A3) h = refl
-sheet_one true (Some A2) h = refl
-sheet_one true (Some A1) h = refl
-sheet_one true (Some A0) h = refl
-sheet_one true (Some Oversize) h = refl
+sheet_one : (o : Option Class) → (o ≡ None → ⊥) → 1 ≡ over_classes (λ c. 1 * one (is_of c o))
+sheet_one None h = absurd (h refl)
+sheet_one (Some A3) h = refl
+sheet_one (Some A2) h = refl
+sheet_one (Some A1) h = refl
+sheet_one (Some A0) h = refl
+sheet_one (Some Oversize) h = refl
 
 -- an edge that has a class is not 0, and one that has none is
 pub no_zero : (e : ℕ) (c : Class) → e ≡ 0 → class_of e ≡ Some c → ⊥
@@ -105,41 +103,44 @@ no_class e h = eqb-true e 0 (by (eqb e 0) (leb e 420) (leb e 594) (leb e 841) (l
     by false false false false false k = some Oversize k
 
 module _ (s : Positions) (edges : List ℕ) where
-  -- the sum is that of each class's sheets at the class's price
-  pub price_classes : (a n : ℕ) → sum_over s (price_at edges) a n ≡ over_classes (λ c. price_of c * sum_over s (class_at edges c) a n)
-  price_classes a zero =
-      rw (over_zero s (price_at edges) a, over_zero s (class_at edges A3) a, over_zero s (class_at edges A2) a, over_zero s (class_at edges A1) a, over_zero s (class_at edges A0) a, over_zero s (class_at edges Oversize) a)
-      refl
-  price_classes a (suc n) =
+  -- a sum whose weight is u of the position's class is that of each class's sheets, u each
+  class_sums : (f : ℕ → ℕ) (u : Class → ℕ) (a n : ℕ)
+      → ((i : ℕ) → a ≤ i → i < a + n → s i ≡ true → f i ≡ over_classes (λ c. u c * class_at edges c i))
+      → sum_over s f a n ≡ over_classes (λ c. u c * sum_over s (class_at edges c) a n)
+  class_sums f u a zero h =
+      rw (over_zero s f a, over_zero s (class_at edges A3) a, over_zero s (class_at edges A2) a, over_zero s (class_at edges A1) a, over_zero s (class_at edges A0) a, over_zero s (class_at edges Oversize) a)
+      (omega arith)
+  class_sums f u a (suc n) h =
       omega (
         arith,
-        over_first s (price_at edges) a n,
-        over_first s (class_at edges A3) a n,
-        over_first s (class_at edges A2) a n,
-        over_first s (class_at edges A1) a n,
-        over_first s (class_at edges A0) a n,
-        over_first s (class_at edges Oversize) a n,
-        price_one (s a) (class_of (slice_index edges a)),
-        price_classes (suc a) n,
+        over_first s f a n,
+        more A3,
+        more A2,
+        more A1,
+        more A0,
+        more Oversize,
+        here (s a) refl,
+        class_sums f u (suc a) n (λ i l v. h i (omega arith) (omega arith)),
       )
+    where
+      more : (c : Class) → u c * sum_over s (class_at edges c) a (suc n) ≡ u c * only_if (s a) (class_at edges c a) + u c * sum_over s (class_at edges c) (suc a) n
+      more c = ap (λ (x : ℕ). u c * x) (over_first s (class_at edges c) a n) ∙ mul-add (u c) (only_if (s a) (class_at edges c a)) (sum_over s (class_at edges c) (suc a) n)
+
+      here : (b : Bool) → s a ≡ b → only_if b (f a) ≡ over_classes (λ c. u c * only_if b (class_at edges c a))
+      here true x = h a (omega arith) (omega arith) x
+      here false x = omega arith
+
+  -- the sum is that of each class's sheets at the class's price
+  pub price_classes : (a n : ℕ) → sum_over s (price_at edges) a n ≡ over_classes (λ c. price_of c * sum_over s (class_at edges c) a n)
+  price_classes a n = class_sums (price_at edges) price_of a n (λ i l v x. price_one (class_of (slice_index edges i)))
 
   -- the classes' sheets are all the sheets, where each is measured
   pub sheet_classes : (a n : ℕ) → ((i : ℕ) → a ≤ i → i < a + n → s i ≡ true → slice_index edges i ≡ 0 → ⊥)
       → sum_over s sheet_at a n ≡ over_classes (λ c. sum_over s (class_at edges c) a n)
-  sheet_classes a zero h =
-      rw (over_zero s sheet_at a, over_zero s (class_at edges A3) a, over_zero s (class_at edges A2) a, over_zero s (class_at edges A1) a, over_zero s (class_at edges A0) a, over_zero s (class_at edges Oversize) a)
-      refl
-  sheet_classes a (suc n) h =
+  sheet_classes a n h =
       omega (
         arith,
-        over_first s sheet_at a n,
-        over_first s (class_at edges A3) a n,
-        over_first s (class_at edges A2) a n,
-        over_first s (class_at edges A1) a n,
-        over_first s (class_at edges A0) a n,
-        over_first s (class_at edges Oversize) a n,
-        sheet_one (s a) (class_of (slice_index edges a)) (λ x y. h a (omega arith) (omega arith) x (no_class _ y)),
-        sheet_classes (suc a) n (λ i l u. h i (omega arith) (omega arith)),
+        class_sums sheet_at (λ c. 1) a n (λ i l v x. sheet_one (class_of (slice_index edges i)) (λ y. h i l v x (no_class _ y))),
       )
 
 -- ---- the number of sheets, and the width of the sum

@@ -1,7 +1,8 @@
 -- `add_run` meets its contract: a sheet added at each step. Assumes nothing.
-use Rattle.estimate.proofs.Kit.{◌≡◌, refl, sym, ◌∙◌, [], ◌∷◌, get_or, arith}
+use Rattle.estimate.proofs.Kit.{◌≡◌, refl, sym, ◌∙◌, get_or, arith}
 use denote.Enum.Declared.{tag_of}
 use Rattle.estimate.specs.contracts.class.Class.{the_type}
+use Rattle.estimate.specs.declared.class.TheConstants.{PRICES}
 use Rattle.estimate.specs.declared.class.Class.{Class}
 use Rattle.estimate.specs.Prices.{price_of, place_of}
 use Rattle.estimate.specs.declared.class.Class.TheVariants.{A3, A2, A1, A0, Oversize}
@@ -9,7 +10,7 @@ use Rattle.estimate.proofs.AddedSheets.{added_none, added_one, ended, unmeasured
 use Rattle.estimate.proofs.Estimate.add_run.Goals as goal
 
 pub loop-i-init : goal.loop-i-init
-loop-i-init c = added_none _ _ c.args.self c.args.self c.requires.0
+loop-i-init c = added_none _ _ c.args.self c.requires.0
 
 pub returns-in_default : goal.returns-in_default
 returns-in_default c =
@@ -23,7 +24,7 @@ place A1 = refl
 place A0 = refl
 place Oversize = refl
 
-priced : (k : Class) → get_or (650 ∷ 1100 ∷ 1400 ∷ 1850 ∷ 4200 ∷ []) (tag_of the_type k) 0 ≡ price_of k
+priced : (k : Class) → get_or PRICES (tag_of the_type k) 0 ≡ price_of k
 priced A3 = refl
 priced A2 = refl
 priced A1 = refl
