@@ -1,4 +1,5 @@
-//! What the drivers share: lent slices that are held to what they held, and two values that must be the same.
+//! What the drivers share: lent slices that are held to what they held, two values that must be the same, and what a lent storage says of
+//! its set.
 
 use crate::guarded::*;
 use crate::port::*;
@@ -76,8 +77,8 @@ pub fn sound(storage: &Lent<u64>, head: Head) -> bool {
     unsafe { klado_set_audit(head, storage.first(), storage.len()) }.value == 1
 }
 
-#[allow(dead_code)]
 /// One side on memory that is not sound: random numbers, or a set that some ranges make. Answers its head.
+#[allow(dead_code)]
 pub fn any_side<'a>(
     name: &'static str,
     room: &'a mut Room<u64>,

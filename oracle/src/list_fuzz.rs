@@ -96,10 +96,10 @@ fn buffer<'a>(room: &'a mut Room<u8>, random: &mut Random, len: usize) -> Lent<'
 
 /// The header's rules in their order, 9 only where no list fits.
 fn refusal(case: &Case) -> u32 {
-    let capacity = 64 * case.head.words as usize;
-    if !allowed(capacity) || case.head.len as usize > capacity {
+    if bad(case.head) {
         return 2;
     }
+    let capacity = 64 * case.head.words as usize;
     if case.storage_len < storage_needed(capacity) {
         return 3;
     }
