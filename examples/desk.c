@@ -21,6 +21,6 @@ int main(void) {
     did = klado_ledger_mark(did.head, sheets, room, undo, UNDO, 250, 300);
     printf("refused %u\n", did.refused); /* 4: there is no sheet 256, and the head that comes back is the old one */
     klado_found next = klado_set_next_zero(did.head.set, sheets, room, 0, SHEETS);
-    if (next.found) printf("next to scan %llu\n", (unsigned long long)next.at);
+    if (next.found) printf("next to scan %llu to %llu\n", (unsigned long long)next.at, (unsigned long long)next.end - 1);
     return 0;
 }

@@ -119,12 +119,21 @@ typedef struct {
     uint32_t value;
 } klado_answer;
 
-/* What the searches give: `found` is 1 and `at` the position, or `found` and `at` are 0. */
+/* What the searches give: `found` is 1, and the run that was found is at..end; or `found`, `at` and `end` are 0. On any memory, sound or not,
+ * a run that is found has a position and lies in the range: start <= at, at < end, and `end` is at most the search's own. */
 typedef struct {
     uint32_t refused;
     uint32_t found;
     uint64_t at;
+    uint64_t end;
 } klado_found;
+
+/* What the call gives that asks for one position: `found` is 1 and `at` the position, or `found` and `at` are 0. */
+typedef struct {
+    uint32_t refused;
+    uint32_t found;
+    uint64_t at;
+} klado_place;
 
 /* An empty set of this capacity: its head, with `allocated` clear. It takes no storage, and the storage that is
  * lent to the calls after it may hold anything. `value` is 0. Refused: 1. */
@@ -152,16 +161,18 @@ klado_set_answer klado_set_assign(klado_set head, uint64_t *storage, size_t stor
 /* How many positions of start..end the set has. Refused: 2, 3, 4. */
 klado_answer klado_set_count(klado_set head, const uint64_t *storage, size_t storage_len, size_t start, size_t end);
 
-/* The first position of start..end that the set has. Refused: 2, 3, 4. */
+/* The first run of start..end that the set has: from the first such position to the first later one that the set has not, or to `end`.
+ * Refused: 2, 3, 4. */
 klado_found klado_set_next_one(klado_set head, const uint64_t *storage, size_t storage_len, size_t start, size_t end);
 
-/* The first position of start..end that the set has not. Refused: 2, 3, 4. */
+/* The first run of start..end that the set has not: from the first such position to the first later one that the set has, or to `end`.
+ * Refused: 2, 3, 4. */
 klado_found klado_set_next_zero(klado_set head, const uint64_t *storage, size_t storage_len, size_t start, size_t end);
 
 /* The set's position number `n`, counted from 0: the one that has exactly `n` positions of the set before it; found is 0 where the set has
  * `n` positions or fewer. Any `n` is allowed. It looks at a number for each block on the way that is neither all in the set nor all
  * out of it, mostly from the nearer end, and into the words of one block. Refused: 2, 3. */
-klado_found klado_set_select(klado_set head, const uint64_t *storage, size_t storage_len, size_t n);
+klado_place klado_set_select(klado_set head, const uint64_t *storage, size_t storage_len, size_t n);
 
 /* Takes every position out, and answers how many there were. `allocated` stays as it is. Refused: 2, 3. */
 klado_set_answer klado_set_clear(klado_set head, uint64_t *storage, size_t storage_len);

@@ -22,8 +22,13 @@ int main(void) {
     klado_set_answer marked = klado_set_assign(made.head, sheets, room, 4032, 4160, true);
     expect("assign 4032..4160", marked.value, 128);
     expect("count 4095..4097", klado_set_count(marked.head, sheets, room, 4095, 4097).value, 2);
-    expect("next_one 0..8192", klado_set_next_one(marked.head, sheets, room, 0, 8192).at, 4032);
-    expect("next_zero 4032..8192", klado_set_next_zero(marked.head, sheets, room, 4032, 8192).at, 4160);
+    klado_found run = klado_set_next_one(marked.head, sheets, room, 0, 8192);
+    expect("next_one 0..8192", run.at, 4032);
+    expect("next_one 0..8192, end", run.end, 4160);
+    expect("next_one 4100..4130, end", klado_set_next_one(marked.head, sheets, room, 4100, 4130).end, 4130);
+    run = klado_set_next_zero(marked.head, sheets, room, 4032, 8192);
+    expect("next_zero 4032..8192", run.at, 4160);
+    expect("next_zero 4032..8192, end", run.end, 8192);
     expect("next_zero 4032..4160, found", klado_set_next_zero(marked.head, sheets, room, 4032, 4160).found, 0);
     klado_set_answer one = klado_set_set(marked.head, sheets, room, 4100, false);
     expect("set 4100 to false", one.value, 1);
@@ -54,7 +59,9 @@ int main(void) {
     expect("either, last", klado_set_select(third.head, made_of, room, 137).at, 8009);
     third = klado_set_without(one.head, sheets, room, two.head, placed, room, made_of, room, scratch, sizeof scratch / 8);
     expect("without", third.head.len, 98);
-    expect("without, next after 4089", klado_set_next_one(third.head, made_of, room, 4090, 8192).at, 4120);
+    run = klado_set_next_one(third.head, made_of, room, 4090, 8192);
+    expect("without, next after 4089", run.at, 4120);
+    expect("without, next after 4089, end", run.end, 4160);
     expect("without, audit", klado_set_audit(third.head, made_of, room).value, 1);
     third = klado_set_without(one.head, sheets, room, one.head, sheets, room, made_of, room, scratch, sizeof scratch / 8);
     expect("without itself", third.head.len, 0);

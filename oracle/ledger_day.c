@@ -62,8 +62,10 @@ int main(void) {
     head = called("mark point 4096", klado_ledger_mark_point(head, sheets, room, undo, LIMIT, 4096));
     head = called("mark point SIZE_MAX", klado_ledger_mark_point(head, sheets, room, undo, LIMIT, SIZE_MAX));
     head = called("wipe, short storage", klado_ledger_wipe(head, sheets, room - 1));
-    printf("next_zero 150..400       %llu\n",
-           (unsigned long long)klado_set_next_zero(head.set, sheets, room, 150, 400).at);
+    klado_found next = klado_set_next_zero(head.set, sheets, room, 150, 400);
+    printf("next_zero 150..400       %llu..%llu\n", (unsigned long long)next.at, (unsigned long long)next.end);
+    next = klado_set_next_zero(head.set, sheets, room, 251, 400);
+    printf("next_zero 251..400       %llu..%llu\n", (unsigned long long)next.at, (unsigned long long)next.end);
     for (int calls = 4; calls > 0; calls--)
         head = called("take back", klado_ledger_take_back(head, sheets, room, undo, LIMIT));
     printf("count 100..200           %u\n", klado_set_count(head.set, sheets, room, 100, 200).value);

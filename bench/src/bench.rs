@@ -4,8 +4,8 @@
 //! turn, ROUNDS times; each side's least time counts. The Rust is called as Rust calls it, inlined where the compiler
 //! likes; the port through C, with its refusal checks and its head in and out by value. Both sides must give the same sum of
 //! answers. The loop draws its random numbers as it goes, the same for both, so `loop alone` is in every figure: it is
-//! printed, and not taken off. The Rust has no select, no combinations and no estimate; their rows have tables of their own (select.rs, combine.rs,
-//! estimate.rs).
+//! printed, and not taken off. The Rust's searches find no run, and it has no select, no combinations and no estimate; their rows have tables of
+//! their own (runs.rs, select.rs, combine.rs, estimate.rs).
 
 mod combine;
 mod estimate;
@@ -17,6 +17,7 @@ mod original;
 mod port;
 #[cfg(roaring)]
 mod roaring;
+mod runs;
 mod select;
 #[cfg(trial)]
 mod trial;
@@ -24,6 +25,7 @@ mod trial;
 use original::RangeBitset;
 use port::*;
 use std::hint::black_box;
+use std::ops::Range;
 use std::time::Instant;
 
 trait Set {
@@ -34,6 +36,13 @@ trait Set {
     fn count(&self, start: usize, end: usize) -> u32;
     fn next_one(&self, start: usize, end: usize) -> Option<usize>;
     fn next_zero(&self, start: usize, end: usize) -> Option<usize>;
+    /// The run of the value at or after `start`: by two searches, where one finds no more than a position.
+    #[inline(always)]
+    fn run(&self, start: usize, end: usize, value: bool) -> Option<Range<usize>> {
+        let at = if value { self.next_one(start, end) } else { self.next_zero(start, end) }?;
+        let to = if value { self.next_zero(at, end) } else { self.next_one(at, end) };
+        Some(at..to.unwrap_or(end))
+    }
     /// The Rust has none.
     fn select(&self, _: usize) -> Option<usize> {
         None
@@ -83,9 +92,14 @@ fn number(answer: Answer) -> u32 {
     answer.value
 }
 
-fn place(answer: Found) -> Option<usize> {
+fn place(answer: Place) -> Option<usize> {
     assert!(answer.refused == 0);
     if answer.found == 0 { None } else { Some(answer.at as usize) }
+}
+
+fn found(answer: Found) -> Option<Range<usize>> {
+    assert!(answer.refused == 0);
+    if answer.found == 0 { None } else { Some(answer.at as usize..answer.end as usize) }
 }
 
 impl Set for Port {
@@ -109,10 +123,15 @@ impl Set for Port {
         number(unsafe { klado_set_count(self.head, self.storage.as_ptr(), self.storage.len(), start, end) })
     }
     fn next_one(&self, start: usize, end: usize) -> Option<usize> {
-        place(unsafe { klado_set_next_one(self.head, self.storage.as_ptr(), self.storage.len(), start, end) })
+        self.run(start, end, true).map(|run| run.start)
     }
     fn next_zero(&self, start: usize, end: usize) -> Option<usize> {
-        place(unsafe { klado_set_next_zero(self.head, self.storage.as_ptr(), self.storage.len(), start, end) })
+        self.run(start, end, false).map(|run| run.start)
+    }
+    #[inline(always)]
+    fn run(&self, start: usize, end: usize, value: bool) -> Option<Range<usize>> {
+        let search = if value { klado_set_next_one } else { klado_set_next_zero };
+        found(unsafe { search(self.head, self.storage.as_ptr(), self.storage.len(), start, end) })
     }
     fn select(&self, n: usize) -> Option<usize> {
         place(unsafe { klado_set_select(self.head, self.storage.as_ptr(), self.storage.len(), n) })
@@ -154,6 +173,8 @@ enum Kind {
     Assign,
     NextOne,
     NextZero,
+    OneRun,
+    ZeroRun,
     Count,
     Set,
     Get,
@@ -207,21 +228,21 @@ impl<S: Set> Side<S> {
     }
 
     #[inline(never)]
-    fn next_one(&mut self, capacity: u64, calls: u64) {
+    fn next(&mut self, capacity: u64, calls: u64, next: impl Fn(&S, usize) -> Option<usize>) {
         for _ in 0..calls {
             let start = self.draw() & (capacity - 1);
-            if let Some(at) = self.set.next_one(start as usize, capacity as usize) {
+            if let Some(at) = next(&self.set, start as usize) {
                 self.add(at as u64);
             }
         }
     }
 
     #[inline(never)]
-    fn next_zero(&mut self, capacity: u64, calls: u64) {
+    fn run(&mut self, capacity: u64, calls: u64, run: impl Fn(&S, usize) -> Option<Range<usize>>) {
         for _ in 0..calls {
             let start = self.draw() & (capacity - 1);
-            if let Some(at) = self.set.next_zero(start as usize, capacity as usize) {
-                self.add(at as u64);
+            if let Some(run) = run(&self.set, start as usize) {
+                self.add((run.start as u64) << 20 | run.end as u64);
             }
         }
     }
@@ -271,16 +292,18 @@ impl<S: Set> Side<S> {
     }
 
     fn round(&mut self, kind: Kind, capacity: usize, fill: u64, calls: u64) {
-        let capacity = capacity as u64;
+        let (end, capacity) = (capacity, capacity as u64);
         let begun = Instant::now();
         match kind {
             Kind::Assign => self.assign(capacity, fill, calls),
-            Kind::NextOne => self.next_one(capacity, calls),
-            Kind::NextZero => self.next_zero(capacity, calls),
+            Kind::NextOne => self.next(capacity, calls, |set, start| set.next_one(start, end)),
+            Kind::NextZero => self.next(capacity, calls, |set, start| set.next_zero(start, end)),
+            Kind::OneRun => self.run(capacity, calls, |set, start| set.run(start, end, true)),
+            Kind::ZeroRun => self.run(capacity, calls, |set, start| set.run(start, end, false)),
             Kind::Count => self.count(capacity, calls),
             Kind::Set => self.set(capacity, calls),
             Kind::Get => self.get(capacity, calls),
-            Kind::Select => self.select(self.set.count(0, capacity as usize).into(), calls),
+            Kind::Select => self.select(self.set.count(0, end).into(), calls),
         }
         black_box(&self.set);
         black_box(self.sum);
@@ -298,13 +321,12 @@ fn row(name: &str, capacity: usize, fill: u64, kind: Kind, calls: u64, rounds: u
     let mut rust = Side::<RangeBitset>::new(capacity, fill, calls, kind);
     let mut port = Side::<Port>::new(capacity, fill, calls, kind);
     let mut alone = Side::<Nothing>::new(capacity, fill, calls, kind);
-    let has_third = cfg!(roaring) && kind != Kind::NextZero;
-    let mut third = Side::<Third>::new(capacity, fill, if has_third { calls } else { 0 }, kind);
+    let mut third = Side::<Third>::new(capacity, fill, calls, kind);
     for _ in 0..rounds {
         rust.round(kind, capacity, fill, calls);
         port.round(kind, capacity, fill, calls);
         alone.round(kind, capacity, fill, calls);
-        if has_third {
+        if cfg!(roaring) {
             third.round(kind, capacity, fill, calls);
         }
     }
@@ -314,11 +336,11 @@ fn row(name: &str, capacity: usize, fill: u64, kind: Kind, calls: u64, rounds: u
     }
     // roaring's range calls do not say what they changed, so after them the sets alone are compared
     let same_sum = kind == Kind::Assign || rust.sum == third.sum;
-    if has_third && !(same_sum && population == third.set.count(0, capacity)) {
+    if cfg!(roaring) && !(same_sum && population == third.set.count(0, capacity)) {
         return Err(format!("{name}: the Rust's answers sum to {}, roaring's to {}", rust.sum, third.sum));
     }
     let ratio = port.least / rust.least;
-    let beside = if has_third { format!("{:10.2}", third.least) } else { format!("{:>10}", "-") };
+    let beside = if cfg!(roaring) { format!("{:10.2}", third.least) } else { format!("{:>10}", "-") };
     println!("{capacity:>8}  {name:<26}{:9.2}{:9.2}{ratio:8.3}{beside}{:12.2}", rust.least, port.least, alone.least);
     Ok(ratio)
 }
@@ -341,8 +363,6 @@ fn main() {
     for capacity in [4096, 262144] {
         for fill in [200, 5000, 100_000] {
             rows.push((capacity, format!("assign up to {fill}"), fill, Kind::Assign));
-            rows.push((capacity, format!("next_one after {fill}"), fill, Kind::NextOne));
-            rows.push((capacity, format!("next_zero after {fill}"), fill, Kind::NextZero));
             rows.push((capacity, format!("count after {fill}"), fill, Kind::Count));
         }
         rows.push((capacity, "set after 5000".into(), 5000, Kind::Set));
@@ -356,6 +376,7 @@ fn main() {
     }
     let mean = (product / rows.len() as f64).exp();
     println!("geometric mean of the {} ratios {mean:.3}, the largest {worst:.3}; all sums agree", rows.len());
+    runs::table(calls, rounds).unwrap_or_else(differ);
     select::table(calls, rounds).unwrap_or_else(differ);
     combine::table(calls, rounds).unwrap_or_else(differ);
     estimate::table(calls / 8, rounds).unwrap_or_else(differ);

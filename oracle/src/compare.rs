@@ -6,6 +6,9 @@
 //! the numbers past the needed ones must stay. After each list the whole set is swept: the runs of the set one after
 //! another by both searches, `get`, and counts.
 //!
+//! The Rust's searches give a position, where the run starts that the port finds. The run's end is held to the Rust's other search from
+//! there, and to a walk over the Rust's `get`: a whole one, the rarer the longer the run is, and else over the two positions at the end.
+//!
 //! The Rust has no select, so its judge is a walk over the Rust's `get` from position 0. A walk costs the capacity: it
 //! comes on the fresh set, after some of the list's calls, and after the list, always the rarer the larger the set is,
 //! and many ordinals are asked by it. In every sweep select is asked for an end of each run, too.
@@ -35,6 +38,8 @@ struct Port {
     storage: Vec<u64>,
     needed: usize,
     past: Vec<u64>,
+    /// Where the run ends that the last search found.
+    end: usize,
 }
 
 impl Port {
@@ -44,12 +49,23 @@ impl Port {
         let past = storage[needed..].to_vec();
         let made = unsafe { klado_set_new(capacity) };
         assert!(made.refused == 0, "new {capacity} refused {}", made.refused);
-        Port { head: made.head, storage, needed, past }
+        Port { head: made.head, storage, needed, past, end: 0 }
     }
 
     fn changed(&mut self, answer: SetAnswer) -> Given {
         self.head = answer.head;
         told(answer.refused, Some(answer.value.into()))
+    }
+
+    /// A search's answer: its start, and the end kept. Where nothing is found all are zeros. Any other answer is none of the header's,
+    /// and told as a refusal that there is not.
+    fn run(&mut self, answer: Found) -> Given {
+        self.end = answer.end as usize;
+        match (answer.found, answer.at, answer.end) {
+            (0, 0, 0) => told(answer.refused, None),
+            (1, at, _) => told(answer.refused, Some(at)),
+            _ => Err(u32::MAX),
+        }
     }
 
     fn ask(&mut self, call: Call) -> Given {
@@ -63,8 +79,8 @@ impl Port {
                 Call::Clear => self.changed(klado_set_clear(head, storage, len)),
                 Call::Get(index) => number(klado_set_get(head, storage, len, index)),
                 Call::Count(start, end) => number(klado_set_count(head, storage, len, start, end)),
-                Call::NextOne(start, end) => place(klado_set_next_one(head, storage, len, start, end)),
-                Call::NextZero(start, end) => place(klado_set_next_zero(head, storage, len, start, end)),
+                Call::NextOne(start, end) => self.run(klado_set_next_one(head, storage, len, start, end)),
+                Call::NextZero(start, end) => self.run(klado_set_next_zero(head, storage, len, start, end)),
                 Call::Select(n) => place(klado_set_select(head, storage, len, n)),
                 Call::Len => number(klado_set_len(head)),
                 Call::Capacity => number(klado_set_capacity(head)),
@@ -81,8 +97,8 @@ fn number(answer: Answer) -> Given {
     told(answer.refused, Some(answer.value.into()))
 }
 
-/// The position, or two zeros. Any other answer is none of the header's, and told as a refusal that there is not.
-fn place(answer: Found) -> Given {
+/// The position, or two zeros, likewise.
+fn place(answer: Place) -> Given {
     match (answer.found, answer.at) {
         (0, 0) => told(answer.refused, None),
         (1, at) => told(answer.refused, Some(at)),
@@ -147,6 +163,26 @@ impl List {
             self.past.push(call);
             self.differ(&format!("{call}: the Rust gives {wanted:?}, the port {given:?}"));
         }
+        let end = match (call, wanted) {
+            (Call::NextOne(_, end), Some(start)) => self.run_end(start as usize, end, true),
+            (Call::NextZero(_, end), Some(start)) => self.run_end(start as usize, end, false),
+            _ => return,
+        };
+        if self.port.end != end {
+            self.past.push(call);
+            self.differ(&format!("{call}: the run should end at {end}, and the port's ends at {}", self.port.end));
+        }
+    }
+
+    /// Where the run of the value ends that starts at `start`: by the Rust's other search, which the walk must agree with.
+    fn run_end(&mut self, start: usize, end: usize, value: bool) -> usize {
+        let other = if value { Call::NextZero(start, end) } else { Call::NextOne(start, end) };
+        let to = self.judge.ask(other).map_or(end, |at| at as usize);
+        let from = if self.random.once_in(1 + (to - start) / 8) { start } else { to - 1 };
+        if self.judge.walk(from, end, value) != to {
+            self.differ(&format!("the Rust's run {start}..{to} of {value} is none by the Rust's get"));
+        }
+        to
     }
 
     /// Asks select for many ordinals, or all, by one walk over the set.

@@ -5,7 +5,7 @@
 //! that each call returns without a fault (a fault or a call of more than 20 seconds is reported and ends the run with
 //! status 1), that it is refused exactly as the header says, that a refused call and a query write nothing, and that an
 //! accepted call writes none but the needed numbers. What an accepted call answers here is free and not looked at, but
-//! for numbers that can only be 0 or 1. select's n is any number, and none is refused. The audit owes its yes or no on any
+//! for numbers that can only be 0 or 1, and that a run which a search finds lies in its range. select's n is any number, and none is refused. The audit owes its yes or no on any
 //! memory, and is held to a plain one: on the storage as it stands, and with one of its numbers changed for that call.
 
 mod guarded;
@@ -95,13 +95,26 @@ fn change(case: Case, room: &mut Room<u64>, round: &mut Round<u64>) -> Head {
     answer.head
 }
 
+/// A run that is found lies in the range and has a position, on any memory; where none is, there is no end.
+fn run_lies(case: Case, answer: Found) {
+    let (at, end) = (answer.at as usize, answer.end as usize);
+    let lies = case.start <= at && at < end && end <= case.end;
+    if answer.found == 1 && !lies || answer.found == 0 && (at, end) != (0, 0) {
+        wrong(case, &format!("a search gave {answer:?}"));
+    }
+}
+
 /// Queries: 3 get, 4 count, 5 next_one, 6 next_zero, 7 select, 8 capacity, 9 len.
 fn query(case: Case, room: &mut Room<u64>, round: &mut Round<u64>) {
     let storage: *const u64 = unsafe { room.first.add(round.from) };
     let (head, len, start, end) = (case.head, case.len, case.start, case.end);
     let head_alone = if refusal(&case, None) == 2 { 2 } else { 0 };
     let plain = |answer: Answer| (answer.refused, answer.value as u64, 0);
-    let found = |answer: Found| (answer.refused, answer.at, answer.found);
+    let place = |answer: Place| (answer.refused, answer.at, answer.found);
+    let found = |answer: Found| {
+        run_lies(case, answer);
+        (answer.refused, answer.at, answer.found)
+    };
     let ((refused, value, bit), wanted) = unsafe {
         match case.kind {
             3 => {
@@ -111,7 +124,7 @@ fn query(case: Case, room: &mut Room<u64>, round: &mut Round<u64>) {
             4 => (plain(klado_set_count(head, storage, len, start, end)), refusal(&case, Some(end))),
             5 => (found(klado_set_next_one(head, storage, len, start, end)), refusal(&case, Some(end))),
             6 => (found(klado_set_next_zero(head, storage, len, start, end)), refusal(&case, Some(end))),
-            7 => (found(klado_set_select(head, storage, len, start)), refusal(&case, None)),
+            7 => (place(klado_set_select(head, storage, len, start)), refusal(&case, None)),
             8 => (plain(klado_set_capacity(head)), head_alone),
             _ => (plain(klado_set_len(head)), head_alone),
         }

@@ -34,6 +34,11 @@ impl Judge {
         }
     }
 
+    /// The first position from `start` on that has another value, or `end`, by a walk that asks `get` of each.
+    pub fn walk(&self, start: usize, end: usize, value: bool) -> usize {
+        (start..end).find(|&at| self.set.get(at) != value).unwrap_or(end)
+    }
+
     /// Every set position, by a walk from 0 that asks `get` of each. The one at n has exactly n set positions before it and is
     /// set itself: it is select's answer, which the Rust has no call for.
     pub fn ones(&self) -> Vec<u64> {

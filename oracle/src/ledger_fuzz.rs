@@ -269,11 +269,12 @@ fn look(case: Case, memory: &Memory, head: Ledger, machine: &Machine, random: &m
     for value in [true, false] {
         let next = if value { klado_set_next_one } else { klado_set_next_zero };
         let found = unsafe { next(head.set, storage, len, start, end) };
-        let wanted = machine.first(start, end, value);
-        let at = wanted.ok().flatten();
+        let wanted = machine.next_run(start, end, value);
+        let run = wanted.clone().ok().flatten();
         let what = format!("the search {start}..{end} for {value} gave");
-        let numbers = (wanted.err().unwrap_or(0), at.is_some() as u32, at.unwrap_or(0) as u64);
-        same(case, &what, (found.refused, found.found, found.at), numbers);
+        let (at, to) = run.as_ref().map_or((0, 0), |run| (run.start as u64, run.end as u64));
+        let numbers = (wanted.err().unwrap_or(0), run.is_some() as u32, at, to);
+        same(case, &what, (found.refused, found.found, found.at, found.end), numbers);
     }
     is_sound(case, &memory.storage, head.set);
 }

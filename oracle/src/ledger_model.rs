@@ -136,12 +136,13 @@ impl Machine {
         Ok(self.has[range(start, end)].iter().filter(|has| **has).count() as u32)
     }
 
-    /// The first position of start..end that has the value.
-    pub fn first(&self, start: usize, end: usize, value: bool) -> Result<Option<usize>, u32> {
+    /// The run of the value that starts at the first position of start..end with it: up to the first later one that differs, or the end.
+    pub fn next_run(&self, start: usize, end: usize, value: bool) -> Result<Option<std::ops::Range<usize>>, u32> {
         if end > self.capacity() {
             return Err(4);
         }
-        Ok(range(start, end).find(|at| self.has[*at] == value))
+        let first = range(start, end).find(|at| self.has[*at] == value);
+        Ok(first.map(|at| at..(at..end).find(|to| self.has[*to] != value).unwrap_or(end)))
     }
 
     /// The greatest end up to which a call from `start` still finds room in the journal.

@@ -32,6 +32,15 @@ pub struct Found {
     pub refused: u32,
     pub found: u32,
     pub at: u64,
+    pub end: u64,
+}
+
+#[repr(C)]
+#[derive(Clone, Copy, Debug)]
+pub struct Place {
+    pub refused: u32,
+    pub found: u32,
+    pub at: u64,
 }
 
 #[allow(dead_code)]
@@ -53,7 +62,7 @@ unsafe extern "C" {
     pub fn klado_set_count(head: Head, storage: *const u64, len: usize, start: usize, end: usize) -> Answer;
     pub fn klado_set_next_one(head: Head, storage: *const u64, len: usize, start: usize, end: usize) -> Found;
     pub fn klado_set_next_zero(head: Head, storage: *const u64, len: usize, start: usize, end: usize) -> Found;
-    pub fn klado_set_select(head: Head, storage: *const u64, len: usize, n: usize) -> Found;
+    pub fn klado_set_select(head: Head, storage: *const u64, len: usize, n: usize) -> Place;
     pub fn klado_set_clear(head: Head, storage: *mut u64, len: usize) -> SetAnswer;
     pub fn klado_set_audit(head: Head, storage: *const u64, len: usize) -> Answer;
     pub fn klado_set_both(

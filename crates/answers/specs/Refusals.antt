@@ -1,6 +1,7 @@
 -- The specification's number of each refusal, and the reply of an answer. Assumes nothing.
-use Rattle.std.specs.Prelude.{ℕ, Option, Some, None, Result, Ok, Err}
-use Rattle.positions.specs.Replies.{Reply, number, nothing, refusal}
+use Rattle.std.specs.Prelude.{ℕ, [], ◌∷◌, Option, Some, None, Result, Ok, Err}
+use Rattle.std.specs.declared.ops.Range.{Range}
+use Rattle.positions.specs.Replies.{Reply, numbers, number, nothing, refusal}
 use Rattle.answers.specs.declared.Refusal.{Refusal}
 use Rattle.answers.specs.declared.Refusal.TheVariants.{Size, Head, Short, Outside, NoCall, JournalFull, BadFile, NoRoom, OtherCapacity, ShortScratch, FewEdges}
 use Rattle.answers.specs.declared.Changed.{Changed}
@@ -28,10 +29,15 @@ abbrev pub of_result : {A : Type 0} → (A → Reply) → Result A Refusal → R
 of_result f (Ok x) = f x
 of_result f (Err k) = refusal (number_of k)
 
--- the reply of a search: a position, or none
+-- the reply of a position, or none
 abbrev pub of_position : Option ℕ → Reply
 of_position (Some i) = number i
 of_position None = nothing
+
+-- the reply of a run, or none
+abbrev pub of_range : Option (Range ℕ) → Reply
+of_range (Some r) = numbers (r.start ∷ r.end ∷ [])
+of_range None = nothing
 
 -- the answer of a call that changes something, without the head
 abbrev pub answer_in : {A H : Type 0} → Result (Changed A H) Refusal → Result A Refusal

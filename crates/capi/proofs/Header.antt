@@ -1,7 +1,7 @@
 -- What include/kladomyne.h says of every answer, on any memory, from the exports' promises: the refusal's number, what a
 -- refused answer has beside it, that a refused call changes nothing, and which numbers an accepted one can have.
 -- Assumes nothing.
-use Rattle.capi.proofs.Kit.{◌≡◌, refl, ap, sym, ◌∙◌, ◌≢◌, Bool, true, false, cond, List, ℕ, length}
+use Rattle.capi.proofs.Kit.{◌≡◌, refl, ap, sym, ◌∙◌, ◌≢◌, Bool, true, false, cond, List, ℕ, ◌≤◌, ◌<◌, length}
 use Rattle.positions.specs.Positions.{Positions}
 use Rattle.positions.specs.Replies.{Reply, number, refusal, refused}
 use Rattle.answers.specs.Refusals.{answer_in, refused_by}
@@ -14,7 +14,8 @@ use Rattle.capi_told.specs.declared.KladoSet.{KladoSet}
 use Rattle.capi_told.specs.declared.KladoSetAnswer.{KladoSetAnswer}
 use Rattle.capi_told.specs.declared.KladoAnswer.{KladoAnswer}
 use Rattle.capi_told.specs.declared.KladoFound.{KladoFound}
-use Rattle.capi_told.proofs.Numbers.{counted_refused, tested_refused, found_refused, counted_bare, tested_bare, made_refused, made_value, made_bare}
+use Rattle.capi_told.specs.declared.KladoPlace.{KladoPlace}
+use Rattle.capi_told.proofs.Numbers.{counted_refused, tested_refused, found_refused, placed_refused, found_lies, counted_bare, tested_bare, made_refused, made_value, made_bare}
 use Rattle.capi_told.specs.Told.{set_of, head_of, with_head, told_counted}
 use Rattle.capi.specs.Exports.{CapacityTold, LenTold, GetTold, SetTold, AssignTold, CountTold, NextTold, SelectTold, ClearTold, AuditTold, CombineTold}
 
@@ -47,11 +48,16 @@ count_refuses h st a e c t = ap (λ (x : KladoAnswer). x.refused) t.told ∙ cou
 
 pub next_refuses : (v : Bool) → (h : KladoSet) → (st : List ℕ) → (a e : ℕ) → (c : KladoFound) → NextTold v h st a e c
     → c.refused ≡ range_refusal (set_of h) (length st) e
-next_refuses v h st a e c t = ap (λ (x : KladoFound). x.refused) t.told ∙ found_refused t.answer ∙ t.promised.refuses
+next_refuses v h st a e c t = ap (λ (x : KladoFound). x.refused) t.told ∙ found_refused t.answer ∙ t.promised.query.refuses
 
-pub select_refuses : (h : KladoSet) → (st : List ℕ) → (n : ℕ) → (c : KladoFound) → SelectTold h st n c
+-- a run that is found, on any memory
+pub next_lies : (v : Bool) → (h : KladoSet) → (st : List ℕ) → (a e : ℕ) → (c : KladoFound) → NextTold v h st a e c → c.found ≡ 1
+    → (a ≤ c.at) × (c.at < c.end) × (c.end ≤ e)
+next_lies v h st a e c t z = rw t.told (found_lies a e t.answer t.promised.lies (rw t.told at z))
+
+pub select_refuses : (h : KladoSet) → (st : List ℕ) → (n : ℕ) → (c : KladoPlace) → SelectTold h st n c
     → c.refused ≡ storage_refusal (set_of h) (length st)
-select_refuses h st n c t = ap (λ (x : KladoFound). x.refused) t.told ∙ found_refused t.answer ∙ t.promised.refuses
+select_refuses h st n c t = ap (λ (x : KladoPlace). x.refused) t.told ∙ placed_refused t.answer ∙ t.promised.refuses
 
 pub audit_refuses : (h : KladoSet) → (st : List ℕ) → (c : KladoAnswer) → AuditTold h st c
     → c.refused ≡ storage_refusal (set_of h) (length st)

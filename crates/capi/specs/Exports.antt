@@ -5,12 +5,13 @@ use Rattle.range_bitset.specs.Entries.{CapacityEnsures, LenEnsures, GetEnsures, 
 use Rattle.audit.specs.Entry.{AuditEnsures}
 use Rattle.combine.specs.Rules.{Rule}
 use Rattle.combine.specs.Entry.{CombineEnsures}
-use Rattle.range_bitset.specs.Answers.{Made, Counted, Tested, Found, Assigned, Updated}
+use Rattle.range_bitset.specs.Answers.{Made, Counted, Tested, Found, Placed, Assigned, Updated}
 use Rattle.capi_told.specs.declared.KladoSet.{KladoSet}
 use Rattle.capi_told.specs.declared.KladoSetAnswer.{KladoSetAnswer}
 use Rattle.capi_told.specs.declared.KladoAnswer.{KladoAnswer}
 use Rattle.capi_told.specs.declared.KladoFound.{KladoFound}
-use Rattle.capi_told.specs.Told.{Told, set_of, told_made, told_counted, told_tested, told_found, told_assigned, told_updated}
+use Rattle.capi_told.specs.declared.KladoPlace.{KladoPlace}
+use Rattle.capi_told.specs.Told.{Told, set_of, told_made, told_counted, told_tested, told_found, told_placed, told_assigned, told_updated}
 
 abbrev pub CapacityTold : KladoSet → KladoAnswer → Type 0
 CapacityTold h c = Told Counted KladoAnswer (CapacityEnsures (set_of h)) told_counted c
@@ -27,8 +28,8 @@ CountTold h st a e c = Told Counted KladoAnswer (CountEnsures (set_of h) st a e)
 abbrev pub NextTold : Bool → KladoSet → List ℕ → ℕ → ℕ → KladoFound → Type 0
 NextTold v h st a e c = Told Found KladoFound (NextEnsures v (set_of h) st a e) told_found c
 
-abbrev pub SelectTold : KladoSet → List ℕ → ℕ → KladoFound → Type 0
-SelectTold h st n c = Told Found KladoFound (SelectEnsures (set_of h) st n) told_found c
+abbrev pub SelectTold : KladoSet → List ℕ → ℕ → KladoPlace → Type 0
+SelectTold h st n c = Told Placed KladoPlace (SelectEnsures (set_of h) st n) told_placed c
 
 abbrev pub AssignTold : KladoSet → List ℕ → ℕ → ℕ → Bool → KladoSetAnswer → List ℕ → Type 0
 AssignTold h st a e v c st' = Told Assigned KladoSetAnswer (λ r. AssignEnsures (set_of h) st a e v r st') (told_assigned h) c

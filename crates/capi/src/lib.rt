@@ -14,7 +14,7 @@ ghost use Rattle.combine.specs.Rules.{both, either, without};
 ghost use Rattle.capi.specs.Exports.{CapacityTold, LenTold, GetTold, SetTold, AssignTold, CountTold, NextTold, SelectTold, ClearTold, AuditTold, CombineTold};
 
 use answers::Changed;
-use capi_told::{KladoAnswer, KladoFound, KladoSet, KladoSetAnswer};
+use capi_told::{KladoAnswer, KladoFound, KladoPlace, KladoSet, KladoSetAnswer};
 use combine::{Both, Either, Without, combine};
 use range_bitset::RangeBitset;
 
@@ -116,7 +116,7 @@ pub extern "C" fn klado_set_next_zero(
 }
 
 #[unsafe(no_mangle)]
-pub extern "C" fn klado_set_select(head: KladoSet, storage: &[u64], n: usize) -> KladoFound
+pub extern "C" fn klado_set_select(head: KladoSet, storage: &[u64], n: usize) -> KladoPlace
     ensures { SelectTold head storage.now n result }
 {
     RangeBitset::from(head).select(storage, n).into()

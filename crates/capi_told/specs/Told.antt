@@ -4,11 +4,12 @@ use Rattle.std.specs.Prelude.{◌≡◌, false, Some, None, Ok, Err}
 use Rattle.positions.specs.Positions.{one}
 use Rattle.range_bitset.specs.declared.RangeBitset.{RangeBitset}
 use Rattle.answers.specs.Refusals.{number_of, answer_in, head_after}
-use Rattle.range_bitset.specs.Answers.{Made, Counted, Tested, Found, Assigned, Updated}
+use Rattle.range_bitset.specs.Answers.{Made, Counted, Tested, Found, Placed, Assigned, Updated}
 use Rattle.capi_told.specs.declared.KladoSet.{KladoSet}
 use Rattle.capi_told.specs.declared.KladoSetAnswer.{KladoSetAnswer}
 use Rattle.capi_told.specs.declared.KladoAnswer.{KladoAnswer}
 use Rattle.capi_told.specs.declared.KladoFound.{KladoFound}
+use Rattle.capi_told.specs.declared.KladoPlace.{KladoPlace}
 
 -- ---- heads: the same three fields
 
@@ -33,9 +34,14 @@ told_tested (Ok b) = record { refused = 0; value = one b }
 told_tested (Err k) = record { refused = number_of k; value = 0 }
 
 abbrev pub told_found : Found → KladoFound
-told_found (Ok (Some i)) = record { refused = 0; found = 1; at = i }
-told_found (Ok None) = record { refused = 0; found = 0; at = 0 }
-told_found (Err k) = record { refused = number_of k; found = 0; at = 0 }
+told_found (Ok (Some r)) = record { refused = 0; found = 1; at = r.start; end = r.end }
+told_found (Ok None) = record { refused = 0; found = 0; at = 0; end = 0 }
+told_found (Err k) = record { refused = number_of k; found = 0; at = 0; end = 0 }
+
+abbrev pub told_placed : Placed → KladoPlace
+told_placed (Ok (Some i)) = record { refused = 0; found = 1; at = i }
+told_placed (Ok None) = record { refused = 0; found = 0; at = 0 }
+told_placed (Err k) = record { refused = number_of k; found = 0; at = 0 }
 
 -- an answer with the head after it
 abbrev pub with_head : KladoAnswer → RangeBitset → KladoSetAnswer

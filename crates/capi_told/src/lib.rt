@@ -4,10 +4,11 @@
 #![tactic(auto)]
 
 ghost use Rattle.std.specs.Prelude.{◌≡◌};
-ghost use Rattle.capi_told.specs.Told.{set_of, head_of, told_made, told_counted, told_tested, told_found, told_assigned};
+ghost use Rattle.capi_told.specs.Told.{set_of, head_of, told_made, told_counted, told_tested, told_found, told_placed, told_assigned};
 
 use answers::{Changed, Refusal};
 use range_bitset::RangeBitset;
+use std::ops::Range;
 
 // The head of a set.
 #[repr(C)]
@@ -35,10 +36,20 @@ pub struct KladoAnswer {
     pub value: u32,
 }
 
-// What the searches give. C has no Option, so `found` stands beside the place.
+// What the searches give: where a run starts, and where it ends. C has no Option, so `found` stands beside them; so in the next.
 #[repr(C)]
 #[derive(Clone, Copy, Debug, PartialEq, Eq)]
 pub struct KladoFound {
+    pub refused: u32,
+    pub found: u32,
+    pub at: u64,
+    pub end: u64,
+}
+
+// What a call gives that asks for one position.
+#[repr(C)]
+#[derive(Clone, Copy, Debug, PartialEq, Eq)]
+pub struct KladoPlace {
     pub refused: u32,
     pub found: u32,
     pub at: u64,
@@ -101,16 +112,34 @@ impl From<Result<bool, Refusal>> for KladoAnswer {
     }
 }
 
-impl From<Result<Option<usize>, Refusal>> for KladoFound {
+impl From<Result<Option<Range<usize>>, Refusal>> for KladoFound {
     ghost from_gives = { λ answer told. told ≡ told_found answer };
 
-    fn from(answer: Result<Option<usize>, Refusal>) -> KladoFound {
+    fn from(answer: Result<Option<Range<usize>>, Refusal>) -> KladoFound {
+        let (refused, found, at, end) = match answer {
+            Ok(Some(run)) => (0, 1, run.start as u64, run.end as u64),
+            Ok(None) => (0, 0, 0, 0),
+            Err(refusal) => (u8::from(refusal) as u32, 0, 0, 0),
+        };
+        KladoFound {
+            refused,
+            found,
+            at,
+            end,
+        }
+    }
+}
+
+impl From<Result<Option<usize>, Refusal>> for KladoPlace {
+    ghost from_gives = { λ answer told. told ≡ told_placed answer };
+
+    fn from(answer: Result<Option<usize>, Refusal>) -> KladoPlace {
         let (refused, found, at) = match answer {
             Ok(Some(i)) => (0, 1, i as u64),
             Ok(None) => (0, 0, 0),
             Err(refusal) => (u8::from(refusal) as u32, 0, 0),
         };
-        KladoFound { refused, found, at }
+        KladoPlace { refused, found, at }
     }
 }
 

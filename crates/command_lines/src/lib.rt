@@ -6,7 +6,7 @@
 ghost use Rattle.std.specs.Prelude.{◌≡◌, ◌++◌, ◌+◌, ◌≤◌, ◌<◌, cond, length, take, position, MatchOption, option_copied, ◌==◌};
 ghost use Rattle.positions.specs.Positions.{one};
 ghost use Rattle.positions.specs.Replies.{number};
-ghost use Rattle.answers.specs.Refusals.{of_result, of_position};
+ghost use Rattle.answers.specs.Refusals.{of_result, of_range};
 ghost use Rattle.command_lines.specs.Lines.{fields, is_number, value, pair, alone, with, meaning};
 ghost use Rattle.command_lines.specs.Inner.{SplitsAt};
 ghost use Rattle.command_lines.specs.Answers.{answer_of, low32, text, printed, out_after};
@@ -15,6 +15,7 @@ ghost use Rattle.command_lines.specs.Input.{Splits, Gathers};
 use answers::Refusal;
 use arrayvec::ArrayVec;
 use itoa::Buffer;
+use std::ops::Range;
 
 // What a line asks for: `new` with capacity and journal length, or a call, most with start and end.
 #[derive(Clone, Copy, Debug, PartialEq, Eq)]
@@ -59,13 +60,13 @@ impl From<Result<bool, Refusal>> for Answer {
     }
 }
 
-// A place. A position is below the capacity, so that 32 bits hold it; any other number is cut to them.
-impl From<Result<Option<usize>, Refusal>> for Answer {
-    ghost from_gives = { λ found printed. printed ≡ answer_of (low32 (of_result of_position found)) };
+// A run's start alone. A position is below the capacity, so that 32 bits hold it; any other number is cut to them.
+impl From<Result<Option<Range<usize>>, Refusal>> for Answer {
+    ghost from_gives = { λ found printed. printed ≡ answer_of (low32 (of_result of_range found)) };
 
-    fn from(found: Result<Option<usize>, Refusal>) -> Answer {
+    fn from(found: Result<Option<Range<usize>>, Refusal>) -> Answer {
         match found {
-            Ok(Some(i)) => Answer::Number((i % 0x1_0000_0000) as u32),
+            Ok(Some(run)) => Answer::Number((run.start % 0x1_0000_0000) as u32),
             Ok(None) => Answer::Nothing,
             Err(refusal) => Answer::Refused(refusal.into()),
         }

@@ -1,7 +1,7 @@
 -- Laws of the walk in `price`, and of what it returns: how far the order is priced, and each answer. Assumes nothing.
 use Rattle.estimate.proofs.Kit.{◌≡◌, refl, sym, ap, ap₂, ◌∙◌, ◌⊎◌, inl, inr, Bool, true, false, false≢true, List, [], ◌∷◌, cond, subst, ℕ, ◌+◌, ◌*◌, ◌-◌, ◌≤◌, ◌<◌, length, ltb, ltb-false, arith, dec_lt, dec_le}
 use Rattle.std.specs.Prelude.{slice_index}
-use Rattle.std.proofs.Common.{Some, None, Ok, Err}
+use Rattle.std.proofs.Common.{Option, Some, None, Ok, Err}
 use Rattle.std.specs.declared.ops.Range.{Range}
 use Rattle.positions.specs.Positions.{Positions, lacking, differ}
 use Rattle.positions.specs.Runs.{changed_runs}
@@ -18,7 +18,9 @@ use Rattle.answers.specs.Refusals.{number_of}
 use Rattle.answers.specs.declared.Refusal.{Refusal}
 use Rattle.answers.proofs.Numbers.{number_some}
 use Rattle.set_runs.specs.declared.Runs.{Runs}
-use Rattle.set_runs.proofs.RunWalks.{Along}
+use Rattle.set_runs.specs.Runs.{GivesRun}
+use Rattle.set_runs.specs.Walks.{Finds}
+use Rattle.set_runs.proofs.RunWalks.{Along, along_next, along_finds, none_left, run_found}
 use Rattle.estimate.specs.declared.Estimate.{Estimate}
 use Rattle.estimate.specs.declared.NotPriced.{NotPriced}
 use Rattle.estimate.specs.declared.NotPriced.TheVariants as why
@@ -26,7 +28,7 @@ use Rattle.estimate.specs.declared.class.Class.{Class}
 use Rattle.estimate.specs.declared.class.Class.TheVariants.{A3, A2, A1, A0, Oversize}
 use Rattle.estimate.specs.Prices.{place_of, by_class, price_at, sheet_at, class_at, over_clear, unmeasured}
 use Rattle.estimate.specs.Entry.{AddsUp, sheets_of, of_estimated, estimate_refusal, estimate_reply, priced_from, EstimateEnsures}
-use Rattle.estimate.specs.Inner.{Adds, FirstUnmeasured, AddsRun, StepsAhead}
+use Rattle.estimate.specs.Inner.{Adds, FirstUnmeasured, AddsRun}
 use Rattle.estimate.proofs.AddedSheets.{place_five}
 use Rattle.estimate.proofs.Laws.{price_classes, sheet_classes, nothing_left, is_unmeasured, unmeasured_at}
 
@@ -192,50 +194,49 @@ module _ (h : RangeBitset) (st edges : List ℕ) (a e : ℕ) where
       }
 
   module _ (z : estimate_refusal h (length st) (length edges) e ≡ 0) (x : Runs) (y : Estimate) (w : Walking h st edges a e x y) where
-    -- the run that comes next, on a set that the memory represents
-    next_is : (q : Range ℕ) (x' : Runs) → StepsAhead x (Some q) x' → (s : Positions) → Represents h st s → FirstRun (lacking s true) x.from e q.start q.end
-    unfolding changed_runs
-    next_is q x' t s r =
-        let l = t.runs_left (rw (w.along.set_is, w.along.storage_is, w.along.end_is) (numbers_fit h (length st) (length edges) e z).0) s (rw (w.along.set_is, w.along.storage_is) r) in
-        first_run (lacking s true) x.from e q.start q.end _ (rw (w.along.end_is, w.along.value_is) at l)
+    -- what the iterator finds next, in the call's own numbers
+    finds : (r : Option (Range ℕ)) (x' : Runs) → GivesRun x r x' → Finds h st x.from e true r
+    finds r x' g = along_finds h st e true x w.along r x' g
 
-    pub walk_next : (q : Range ℕ) (x' : Runs) (y' : Estimate) → StepsAhead x (Some q) x' → Adds edges q.start q.end y y' → Walking h st edges a e x' y'
-    walk_next q x' y' t u =
-        let m = t.ahead q refl in
+    accepted : range_refusal h (length st) e ≡ 0
+    accepted = (numbers_fit h (length st) (length edges) e z).0
+
+    next_is : (q : Range ℕ) (x' : Runs) → GivesRun x (Some q) x' → (s : Positions) → Represents h st s → FirstRun (lacking s true) x.from e q.start q.end
+    unfolding changed_runs
+    next_is q x' g s r = first_run (lacking s true) x.from e q.start q.end _ (run_found h st x.from e true accepted s r q (finds (Some q) x' g))
+
+    pub walk_next : (q : Range ℕ) (x' : Runs) (y' : Estimate) → GivesRun x (Some q) x' → Adds edges q.start q.end y y' → Walking h st edges a e x' y'
+    walk_next q x' y' g u =
+        let m = (finds (Some q) x' g).ahead q refl in
+        let b = g.behind q refl in
         record {
-          along =
-              record {
-                set_is = t.same_set ∙ w.along.set_is;
-                storage_is = ap (λ (b : _). b.now) t.same_storage ∙ w.along.storage_is;
-                end_is = t.same_end ∙ w.along.end_is;
-                value_is = t.same_value ∙ w.along.value_is;
-              };
-          low = omega (arith, w.low, m.0, m.1, m.3);
-          high = inl (omega (arith, m.2, m.3, w.along.end_is));
+          along = along_next h st e true x w.along (Some q) x' g;
+          low = omega (arith, w.low, m.0, m.1, b);
+          high = inl (omega (arith, m.2, b));
           adds_up = u.adds_up;
-          few = omega (arith, u.sheets_are, w.few, m.0, m.1, m.3);
-          priced = λ s r. rw m.3 (priced_next s edges a x.from e q.start q.end y y' w.low (next_is q x' t s r) u (w.priced s r));
+          few = omega (arith, u.sheets_are, w.few, m.0, m.1, b);
+          priced = λ s r. rw b (priced_next s edges a x.from e q.start q.end y y' w.low (next_is q x' g s r) u (w.priced s r));
         }
 
-    pub walk_unmeasured : (q : Range ℕ) (x' : Runs) (n : NotPriced) → StepsAhead x (Some q) x' → AddsRun edges q.start q.end y (Err n)
+    pub walk_unmeasured : (q : Range ℕ) (x' : Runs) (n : NotPriced) → GivesRun x (Some q) x' → AddsRun edges q.start q.end y (Err n)
         → EstimateEnsures h st edges a e (Err n)
-    walk_unmeasured q x' (why.Refused k) t u = absurd u
-    walk_unmeasured q x' (why.Unmeasured i) t u =
-        let m = t.ahead q refl in
+    walk_unmeasured q x' (why.Refused k) g u = absurd u
+    walk_unmeasured q x' (why.Unmeasured i) g u =
+        let m = (finds (Some q) x' g).ahead q refl in
         record {
           refuses = λ f. absurd (f z);
           only_13 = λ z. inr (record {
             position = i;
             refused_13 = refl;
-            inside = within_in a e i (omega (arith, w.low, m.0, u.low)) (omega (arith, u.high, m.2, w.along.end_is));
+            inside = within_in a e i (omega (arith, w.low, m.0, u.low)) (omega (arith, u.high, m.2));
             no_edge = u.no_edge;
           });
           adds_up = λ x u. absurd (let z : ◌≡◌ {A = ℕ} 0 1 = cc in omega arith);
-          answers = λ z s r. unmeasured_reply s edges a x.from e q.start q.end i y w.low (next_is q x' t s r) u (w.priced s r);
+          answers = λ z s r. unmeasured_reply s edges a x.from e q.start q.end i y w.low (next_is q x' g s r) u (w.priced s r);
         }
 
-    pub walk_done : (x' : Runs) → StepsAhead x None x' → EstimateEnsures h st edges a e (Ok y)
-    walk_done x' t =
+    pub walk_done : (x' : Runs) → GivesRun x None x' → EstimateEnsures h st edges a e (Ok y)
+    walk_done x' g =
         record {
           refuses = λ f. absurd (f z);
           only_13 = λ z. inl tt;
@@ -248,9 +249,7 @@ module _ (h : RangeBitset) (st edges : List ℕ) (a e : ℕ) where
         few (inr l) = omega (arith, w.few)
 
         left : (s : Positions) → Represents h st s → changed_runs s x.from e true ≡ []
-        left s r =
-            rw (w.along.end_is, w.along.value_is) at
-            (t.runs_left (rw (w.along.set_is, w.along.storage_is, w.along.end_is) (numbers_fit h (length st) (length edges) e z).0) s (rw (w.along.set_is, w.along.storage_is) r))
+        left s r = none_left h st x.from e true accepted s r (finds None x' g)
 
   -- an order of nothing, before the first run
   pub walk_start : (x : Runs) (y : Estimate) → Along h st e true x → x.from ≡ a → y.pence ≡ 0 → y.sheets ≡ 0 → length y.classes ≡ 5

@@ -3,6 +3,5 @@ mod Kit
 pub mod Laws
 pub mod Examples
 pub mod AddedSheets
-pub mod NextRuns
 pub mod EstimateReturns
 pub mod SheetsLeft

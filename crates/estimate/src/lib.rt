@@ -7,7 +7,7 @@
 ghost use Rattle.std.specs.Prelude.{◌≡◌, ◌≤◌, length};
 ghost use Rattle.answers.specs.Refusals.{refused_by};
 ghost use Rattle.estimate.specs.Entry.{AddsUp, estimate_refusal, EstimateEnsures};
-ghost use Rattle.estimate.specs.Inner.{AddsRun, StepsAhead};
+ghost use Rattle.estimate.specs.Inner.{AddsRun};
 
 mod class;
 
@@ -15,7 +15,6 @@ use answers::Refusal;
 pub use class::{Class, PRICES};
 use range_bitset::RangeBitset;
 use set_runs::Runs;
-use std::ops::Range;
 
 // What an order costs in pence, how many sheets it has, and how many of each class, in the order of the classes.
 #[derive(Clone, Copy, Debug, Default, PartialEq, Eq)]
@@ -73,20 +72,6 @@ fn check(set: RangeBitset, len: usize, edges: usize, end: usize) -> Result<(), R
     Ok(())
 }
 
-// The next run, if it lies ahead: on memory that is no set's it may lie anywhere, and the walk then ends.
-fn next_ahead(runs: &mut Runs) -> Option<Range<usize>>
-    ensures { StepsAhead runs.old result runs.new }
-{
-    let from = runs.from;
-    let run = runs.next()?;
-    let start = run.start as usize;
-    let end = runs.from; // where the iterator stands now
-    if start < from || end <= start || runs.end < end {
-        return None;
-    }
-    Some(start..end)
-}
-
 // What it costs to scan the clear positions of `start..end`, by the longest edge of each position's sheet.
 pub fn price(
     set: RangeBitset,
@@ -98,7 +83,7 @@ pub fn price(
     ensures { EstimateEnsures set storage.now edges.now start end result }
 {
     check(set, storage.len(), edges.len(), end)?;
-    let mut runs = Runs {
+    let runs = Runs {
         set,
         storage,
         from: start,
@@ -106,8 +91,8 @@ pub fn price(
         value: true,
     };
     let mut order = Estimate::default();
-    while let Some(run) = next_ahead(&mut runs) {
-        order = order.add_run(edges, run.start, run.end)?;
+    for run in runs {
+        order = order.add_run(edges, run.start as usize, run.end as usize)?;
     }
     Ok(order)
 }

@@ -1,11 +1,11 @@
 -- 01's starred cases: one table, and one result that computes it over the definitions that the promises cite; and the numbers
 -- that 01 gives in passing. Assumes nothing.
-use Rattle.std.specs.Prelude.{◌≡◌, ℕ, ◌/◌, Bool, true, false, cond, List, [], ◌∷◌, map, ◌==◌, refl}
+use Rattle.std.specs.Prelude.{◌≡◌, ℕ, ◌/◌, Bool, true, false, cond, Some, List, [], ◌∷◌, map, ◌==◌, refl}
 use Rattle.std.specs.Int.Count.{ones}
 use Rattle.positions.specs.Positions.{Positions, none, assigned, total, sum_over, count_from, count, first_from, first, changed_count}
-use Rattle.positions.specs.Runs.{runs_from, runs, changed_runs}
+use Rattle.positions.specs.Runs.{run, run_end, next_run, runs_from, runs, changed_runs}
 use Rattle.range_bitset.specs.Layout.{allowed, needed}
-use Rattle.positions.specs.Replies.{Reply, number, nothing, refusal, refused, of_place}
+use Rattle.positions.specs.Replies.{Reply, number, nothing, refusal, refused, of_run}
 use Rattle.range_bitset.specs.Answers.{allowed_capacity, good_head, storage_refusal, range_refusal}
 use Rattle.ledger.specs.Machine.{Machine, fresh, Call, range, back, set_of, population, need_of, standing_call, used, range_verdict, step, after}
 use Rattle.ledger.specs.Journal.{written, journal_of}
@@ -22,7 +22,7 @@ unless_refused capacity s e r = cond (k == 0) r (refusal k)
     k = range_refusal (record { words = capacity / 64; len = count s 0 capacity; allocated = true }) (needed (capacity / 64)) e
 
 abbrev pub searched : ℕ → Positions → Bool → ℕ → ℕ → Reply
-searched capacity s v a e = unless_refused capacity s e (of_place (first s v a e))
+searched capacity s v a e = unless_refused capacity s e (of_run (next_run s v a e))
 
 pub data SetLine : Type 0 where
   assign_line : ℕ → ℕ → Bool → SetLine
@@ -71,11 +71,15 @@ mark a e = do_call (range a e true)
 abbrev clear : ℕ → ℕ → Line
 clear a e = do_call (range a e false)
 
+-- a search's run: 01 gives its start; its end is read off the calls before it
+abbrev found : ℕ → ℕ → Reply
+found a e = of_run (Some (run a e))
+
 abbrev pub cases : List Case
 cases =
     of_set 64 (assign_line 0 64 true ∷ search_line false 0 64 ∷ []) (number 64 ∷ nothing ∷ [])
-    ∷ of_set 64 (search_line false 63 64 ∷ search_line true 63 64 ∷ []) (number 63 ∷ nothing ∷ [])
-    ∷ of_set 128 (assign_line 63 65 true ∷ search_line true 0 128 ∷ search_line false 63 128 ∷ []) (number 2 ∷ number 63 ∷ number 65 ∷ [])
+    ∷ of_set 64 (search_line false 63 64 ∷ search_line true 63 64 ∷ []) (found 63 64 ∷ nothing ∷ [])
+    ∷ of_set 128 (assign_line 63 65 true ∷ search_line true 0 128 ∷ search_line false 63 128 ∷ []) (number 2 ∷ found 63 65 ∷ found 65 128 ∷ [])
     ∷ of_set 64 (assign_line 10 20 true ∷ assign_line 10 20 true ∷ []) (number 10 ∷ number 0 ∷ [])
     ∷ of_set 64 (assign_line 0 65 true ∷ assign_line 500 0 true ∷ []) (refusal 4 ∷ number 0 ∷ [])
     ∷ of_ledger 64 2 (mark 0 1 ∷ []) (refusal 6 ∷ [])
@@ -101,8 +105,8 @@ cases =
     ∷ nothing
     ∷ number 64
     ∷ number 78
-    ∷ number 10
-    ∷ number 20
+    ∷ found 10 20
+    ∷ found 20 30
     ∷ number 50
     ∷ number 10
     ∷ number 60
@@ -111,7 +115,7 @@ cases =
     ∷ []
 
 pub cases_right : map (λ (c : Case). c.given) cases ≡ map (λ (c : Case). c.wanted) cases
-unfolding unless_refused assigned total sum_over count_from count first_from first changed_count runs_from runs changed_runs ones allowed allowed_capacity good_head storage_refusal range_refusal set_of population need_of standing_call used range_verdict step lent_enough new_of
+unfolding unless_refused assigned total sum_over count_from count first_from first run_end next_run changed_count runs_from runs changed_runs ones allowed allowed_capacity good_head storage_refusal range_refusal set_of population need_of standing_call used range_verdict step lent_enough new_of
 cases_right = refl
 
 -- 4,096 words need 4,290 numbers; the capacities 96 and 524,288 are refused 1

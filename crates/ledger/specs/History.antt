@@ -1,7 +1,8 @@
 -- Demand 3: one statement about a whole list of calls, from what an accepted new or open has just given. Assumes nothing.
 use Rattle.std.specs.Prelude.{◌≡◌, ℕ, ◌+◌, ◌<◌, ◌≤◌, true, false, List, [], ◌∷◌, length, Ok}
-use Rattle.positions.specs.Positions.{count, first, one}
-use Rattle.positions.specs.Replies.{Reply, number, of_place}
+use Rattle.positions.specs.Positions.{count, one}
+use Rattle.positions.specs.Runs.{next_run}
+use Rattle.positions.specs.Replies.{Reply, number, of_run}
 use Rattle.range_bitset.specs.Answers.{Counted, Tested, Found, of_counted, of_tested, of_found}
 use Rattle.range_bitset.specs.Entries.{GetEnsures, CountEnsures, NextEnsures}
 use Rattle.saved_list.specs.Format.{saved_capacity, saved_positions}
@@ -27,15 +28,15 @@ pub data Chain : Memory → List Call → List Reply → Memory → Type 0 where
 pub record Agrees (o : Outcome) (replies : List Reply) (x : Memory) : Type 0 where
   -- each call's answer
   pub answers : replies ≡ o.answers
-  -- `get` at every position; `count` and both searches over every start..end within capacity
+  -- `get` at every position; `count` and both searches, their runs' starts and ends, over every start..end within capacity
   pub gets : (i : ℕ) → i < o.last.capacity → (r : Tested) → GetEnsures x.head.set x.storage i r
       → of_tested r ≡ number (one (set_of o.last i))
   pub counts : (a e : ℕ) → e ≤ o.last.capacity → (r : Counted) → CountEnsures x.head.set x.storage a e r
       → of_counted r ≡ number (count (set_of o.last) a e)
   pub ones : (a e : ℕ) → e ≤ o.last.capacity → (r : Found) → NextEnsures true x.head.set x.storage a e r
-      → of_found r ≡ of_place (first (set_of o.last) true a e)
+      → of_found r ≡ of_run (next_run (set_of o.last) true a e)
   pub zeros : (a e : ℕ) → e ≤ o.last.capacity → (r : Found) → NextEnsures false x.head.set x.storage a e r
-      → of_found r ≡ of_place (first (set_of o.last) false a e)
+      → of_found r ≡ of_run (next_run (set_of o.last) false a e)
   -- the head's population, the machine's and demand 3's sum; journal use
   pub population_agrees : x.head.set.len ≡ population o.last
   pub population_sum : x.head.set.len + changed_by false o.last.standing

@@ -1,61 +1,34 @@
 -- Laws for code that walks a call's changed runs by searches, and that takes a call back run by run. Assumes nothing.
-use Rattle.positions.proofs.Kit.{◌≡◌, refl, sym, ap, ◌∙◌, fun_ext, subst, Bool, true, false, not, cond, ◌&&◌, Bool·not-not, true≢false, false≢true, List, [], ◌∷◌, ◌++◌, ℕ, suc, ◌*◌, ◌-◌, ◌≤◌, ◌<◌, min, arith, ltb-true, ltb-false, leb-true, leb-false, ltb, leb, length}
-use Rattle.positions.specs.Positions.{Positions, assigned, within, differ, lacking, Place, found_at, not_found, count, first, changed_count}
-use Rattle.positions.specs.Runs.{Run, run, runs, changed_runs, place_or, run_end, assigned_runs, covered, lengths, Ascending}
+use Rattle.positions.proofs.Kit.{◌≡◌, refl, sym, ap, ◌∙◌, fun_ext, Bool, true, false, not, cond, ◌&&◌, Bool·not-not, false≢true, List, [], ◌∷◌, ◌++◌, ℕ, suc, ◌*◌, ◌-◌, ◌≤◌, ◌<◌, min, arith, leb-true, leb-false, leb, length}
+use Rattle.std.proofs.Common.{Some, None}
+use Rattle.positions.specs.Positions.{Positions, assigned, within, differ, lacking, count, changed_count}
+use Rattle.positions.specs.Runs.{Run, run, runs, changed_runs, next_run, assigned_runs, covered, lengths, Ascending}
 use Rattle.positions.proofs.Ranges.{within_in, within_behind}
 use Rattle.positions.proofs.Counts.{count_all, count_empty}
 use Rattle.positions.proofs.Runs.{runs_only, runs_next, runs_empty, runs_lengths, runs_ascending, runs_covered, assigned_runs_at}
-use Rattle.positions.proofs.Searches.{differ_same, differ_other, IsFirst, Searched, hit, miss, first_means}
+use Rattle.positions.proofs.Searches.{differ_same, differ_other, next_means, none_means}
 
--- the changed runs, by two searches: none where the first search finds nothing, else the run found and the runs behind it
+-- the changed runs, by a search: none where it finds nothing, else the run found and the runs behind it
 
-pub changed_none : (s : Positions) (a e : ℕ) (v : Bool) → a ≤ e → first s (not v) a e ≡ not_found → changed_runs s a e v ≡ []
+pub changed_none : (s : Positions) (a e : ℕ) (v : Bool) → next_run s (not v) a e ≡ None → changed_runs s a e v ≡ []
 unfolding changed_runs
-changed_none s a e v l h = go (first s (not v) a e) h (first_means s (not v) a e)
+changed_none s a e v h = by (leb a e) refl
   where
-    go : (f : Place) → f ≡ not_found → Searched s (not v) a e f → runs (lacking s v) a e ≡ []
-    go f x (hit p m) = absurd (let z : ◌≡◌ {A = ℕ} 0 1 = cc in omega arith)
-    go f x (miss m) =
-        sym (runs_only (lacking s v) a e [] l tt (λ i u w. rw (m i u w, Bool·not-not v, differ_same v)))
+    by : (b : Bool) → leb a e ≡ b → runs (lacking s v) a e ≡ []
+    by true x =
+        let m = none_means s (not v) a e h in
+        sym (runs_only (lacking s v) a e [] (leb-true a e x) tt (λ i u w. rw (m i u w, Bool·not-not v, differ_same v)))
+    by false x = runs_empty (lacking s v) a e (omega (arith, leb-false a e x))
 
-pub changed_next : (s : Positions) (a e : ℕ) (v : Bool) (p : ℕ) → first s (not v) a e ≡ found_at p
-    → changed_runs s a e v ≡ run p (run_end s (not v) p e) ∷ changed_runs s (run_end s (not v) p e) e v
-unfolding changed_runs run_end
-changed_next s a e v p h = go (first s (not v) a e) h (first_means s (not v) a e)
-  where
-    apart : (q : ℕ) → p ≤ q → s p ≡ not v → s q ≡ not (not v) → p < q
-    apart q l x y = both (ltb p q) refl
-      where
-        never : (v : Bool) → not v ≡ not (not v) → ⊥
-        never true e = false≢true e
-        never false e = true≢false e
-
-        both : (b : Bool) → ltb p q ≡ b → p < q
-        both true z = ltb-true p q z
-        both false z =
-            let t : q ≤ p = ltb-false p q z in
-            let r : p ≡ q = omega arith in
-            absurd (never v (sym x ∙ ap s r ∙ y))
-
-    last : IsFirst s (not v) a e p → (f : Place) → Searched s (not (not v)) p e f
-        → runs (lacking s v) a e ≡ run p (place_or e f) ∷ runs (lacking s v) (place_or e f) e
-    last m f (hit q k) =
-        runs_next (lacking s v) a p q e m.low (apart q k.low m.value k.value) (omega (arith, k.high))
-        (λ i u w. rw (m.none_before i u w, Bool·not-not v, differ_same v))
-        (λ i u w. rw (k.none_before i u w, Bool·not-not v, differ_other v))
-        (λ w. rw (k.value, Bool·not-not v, differ_same v))
-    last m f (miss k) =
-        runs_next (lacking s v) a p e e m.low m.high (omega arith)
-        (λ i u w. rw (m.none_before i u w, Bool·not-not v, differ_same v))
-        (λ i u w. rw (k i u w, Bool·not-not v, differ_other v))
-        (λ w. absurd (omega arith))
-
-    go : (f : Place) → f ≡ found_at p → Searched s (not v) a e f
-        → runs (lacking s v) a e ≡ run p (place_or e (first s (not (not v)) p e)) ∷ runs (lacking s v) (place_or e (first s (not (not v)) p e)) e
-    go f x (hit q m) =
-        let y : q ≡ p = cc in
-        last (subst (λ (k : ℕ). IsFirst s (not v) a e k) y m) (first s (not (not v)) p e) (first_means s (not (not v)) p e)
-    go f x (miss m) = absurd (let z : ◌≡◌ {A = ℕ} 0 1 = cc in omega arith)
+pub changed_next : (s : Positions) (a e : ℕ) (v : Bool) (p q : ℕ) → next_run s (not v) a e ≡ Some (run p q)
+    → changed_runs s a e v ≡ run p q ∷ changed_runs s q e v
+unfolding changed_runs
+changed_next s a e v p q h =
+    let m = next_means s (not v) a e p q h in
+    runs_next (lacking s v) a p q e m.low m.some m.high
+    (λ i u w. rw (m.before i u w, Bool·not-not v, differ_same v))
+    (λ i u w. rw (m.own i u w, differ_other v))
+    (λ w. rw (m.stops w, Bool·not-not v, differ_same v))
 
 -- the runs that clearing changes are the set's own
 pub own_runs : (s : Positions) (a e : ℕ) → changed_runs s a e false ≡ runs s a e

@@ -7,6 +7,7 @@ pub use mathlib.Core.Bool.{Bool, beq as Bool·beq, not-not as Bool·not-not, ◌
 pub use mathlib.Core.List.{List, [], ◌++◌, ◌∷◌}
 pub use mathlib.Core.Logic.{◌≢◌, ⊎_elim}
 pub use mathlib.Core.Path.{◌∙◌, ◌≡◌, ap, ap₂, fun_ext, refl, subst, sym}
+pub use native.Mathlib.Decide.{dec_lt}
 pub use native.Mathlib.Nat.{add_assoc, add_comm, add-le-add, add-mul, add-suc, add-zero, eq-or-lt_of_le, le_of_eq, le_refl, mul-one, mul-zero, not-suc-le-zero, one-mul, suc-add, suc-mul, zero-add, zero-mul}
 pub use native.Mathlib.Numerals.{add-one}
 pub use native.Mathlib.Omega.{arith}

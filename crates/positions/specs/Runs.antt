@@ -1,5 +1,5 @@
 -- Runs: the longest stretches of a set, and those that a call changes. All ranges leave out their end. Assumes nothing.
-use Rattle.std.specs.Prelude.{◌≡◌, Bool, true, false, not, cond, List, [], ◌∷◌, ◌++◌, ℕ, zero, suc, ◌+◌, ◌-◌, ◌≤◌, ◌<◌, eqb}
+use Rattle.std.specs.Prelude.{◌≡◌, Bool, true, false, not, cond, Option, Some, None, List, [], ◌∷◌, ◌++◌, ℕ, zero, suc, ◌+◌, ◌-◌, ◌≤◌, ◌<◌, eqb}
 use Rattle.positions.specs.Positions.{Positions, within, assigned, lacking, Place, found_at, not_found, first}
 
 -- a stretch of positions, start..end
@@ -37,6 +37,15 @@ place_or e not_found = e
 -- the end of the run of value v that starts at a: the first later position of a..e that differs, else e
 unfoldable pub run_end : Positions → Bool → ℕ → ℕ → ℕ
 run_end s v a e = place_or e (first s (not v) a e)
+
+-- the run from the place that a search found up to where f says that it ends
+abbrev pub run_at : (ℕ → ℕ) → Place → Option Run
+run_at f (found_at p) = Some (run p (f p))
+run_at f not_found = None
+
+-- what a search for the value v answers: the run that starts at the first position of a..e with that value
+unfoldable pub next_run : Positions → Bool → ℕ → ℕ → Option Run
+next_run s v a e = run_at (λ p. run_end s v p e) (first s v a e)
 
 -- the set with every run given the value v, one run after the other
 abbrev pub assigned_runs : Positions → List Run → Bool → Positions

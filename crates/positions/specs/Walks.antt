@@ -1,7 +1,8 @@
 -- How far a walk has come, and what it found: what the contracts of inner functions speak with. No promise of an entry names it, and
 -- nothing here need be believed. Assumes nothing.
-use Rattle.std.specs.Prelude.{◌≡◌, Bool, true, not, cond, ℕ, ◌≤◌, ◌<◌, ltb}
-use Rattle.positions.specs.Positions.{Positions, count, Place, found_at, not_found}
+use Rattle.std.specs.Prelude.{◌≡◌, Bool, true, not, cond, ℕ, ◌≤◌, ◌<◌, min, ltb, Option, Some, None}
+use Rattle.positions.specs.Positions.{Positions, count}
+use Rattle.positions.specs.Runs.{Run, run}
 
 -- no position of a..e has the value v
 abbrev pub Lacks : Positions → Bool → ℕ → ℕ → Type 0
@@ -14,9 +15,9 @@ pub record Stops (s : Positions) (v : Bool) (a c p : ℕ) : Type 0 where
   pub passed : Lacks s v a p
   pub found : p < c → s p ≡ v
 
--- p, if it lies below the end
-abbrev pub below : ℕ → ℕ → Place
-below p e = cond (ltb p e) (found_at p) not_found
+-- as much of p..q as lies below e, if any of it does
+abbrev pub cut : ℕ → ℕ → ℕ → Option Run
+cut p q e = cond (ltb p (min q e)) (Some (run p (min q e))) None
 
 -- the positions that have the value v
 abbrev pub having : Positions → Bool → Positions

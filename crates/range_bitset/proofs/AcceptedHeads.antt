@@ -1,5 +1,5 @@
 -- What an accepted head, storage, range and point say, what is enough for each to be accepted, and a fresh set's head. Assumes nothing.
-use Rattle.range_bitset.proofs.Kit.{◌≡◌, refl, sym, ap, ◌∙◌, Bool, true, false, cond, false≢true, List, ℕ, zero, suc, ◌*◌, ◌/◌, ◌%◌, ◌≤◌, ◌<◌, arith, eqb, leb, ltb, ones, length, leb-true, le-leb, ltb-true, ltb-false, lt-ltb, le-ltb, eqb-true, eqb-false, ne_eqb}
+use Rattle.range_bitset.proofs.Kit.{◌≡◌, refl, sym, ap, ◌∙◌, Bool, true, false, cond, false≢true, List, ℕ, zero, suc, ◌*◌, ◌/◌, ◌%◌, ◌≤◌, ◌<◌, arith, eqb, leb, ltb, ones, length, leb-true, le-leb, ltb-true, ltb-false, lt-ltb, le-ltb, eqb-true}
 use Rattle.positions.specs.Positions.{Positions, none}
 use Rattle.positions.proofs.Bools.{and_left, and_right}
 use Rattle.positions.proofs.Counts.{count_le, count_none}

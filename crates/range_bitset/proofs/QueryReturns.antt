@@ -1,20 +1,23 @@
 -- The returns of the entries that change nothing: what each answers, from what the code has there. Assumes nothing.
-use Rattle.range_bitset.proofs.Kit.{◌≡◌, refl, ap, sym, ◌∙◌, ◌≢◌, Bool, true, false, List, ℕ, ◌*◌, ◌/◌, ◌%◌, ◌≤◌, ◌<◌, zero-le, le_refl, arith, length}
+use Rattle.range_bitset.proofs.Kit.{◌≡◌, refl, ap, sym, ◌∙◌, ◌≢◌, Bool, true, false, cond, List, ℕ, ◌/◌, ◌%◌, ◌≤◌, ◌<◌, zero-le, le_refl, arith, length, ltb, ltb-true}
 use Rattle.positions.proofs.Replies.{accepted_refused}
-use Rattle.positions.specs.Positions.{Positions, one, Place, found_at, not_found}
+use Rattle.positions.specs.Positions.{Positions, one}
+use Rattle.positions.specs.Runs.{run, next_run}
 use Rattle.positions.proofs.Counts.{count_empty, count_none, count_zero}
-use Rattle.positions.specs.Walks.{below}
-use Rattle.positions.proofs.Searches.{first_none, first_at, first_below}
+use Rattle.positions.specs.Walks.{cut}
+use Rattle.positions.proofs.Searches.{next_none, next_is, next_cut}
 use Rattle.bits.specs.Bit.{bit}
 use Rattle.range_bitset.specs.Read.{word_read}
 use Rattle.range_bitset.specs.Represents.{closed, Represents, Stored, capacity_of}
-use Rattle.positions.specs.Replies.{Reply, number, of_place, Accepted}
+use Rattle.positions.specs.Replies.{Reply, number, of_run, Accepted}
 use Rattle.range_bitset.specs.Answers.{point_refusal, range_refusal}
-use Rattle.range_bitset.specs.Entries.{Answers, GetEnsures, CountEnsures, NextEnsures}
-use Rattle.range_bitset.specs.Inner.{Room, Counts, NextFrom}
+use Rattle.range_bitset.specs.Entries.{Answers, GetEnsures, CountEnsures, Lies, NextEnsures}
+use Rattle.range_bitset.specs.Inner.{Counts, RunFrom}
 use Rattle.range_bitset.specs.declared.RangeBitset.{RangeBitset}
 use Rattle.std.proofs.Common.{Option, Some, None, Ok}
-use Rattle.answers.specs.Refusals.{of_position}
+use Rattle.answers.specs.Refusals.{of_range}
+use Rattle.std.specs.declared.ops.Range.{Range}
+use Rattle.std.specs.Prelude.{min}
 use Rattle.range_bitset.proofs.AcceptedHeads.{point_accepted, range_accepted}
 use Rattle.range_bitset.proofs.SetWords.{word_is, in_word}
 
@@ -68,45 +71,62 @@ module _ (h : RangeBitset) (st : List ℕ) (a e : ℕ) (ok : range_refusal h (le
 
 -- ---- the returns of `next_one` and `next_zero`
 
-found_accepted : (f : Place) → Accepted (of_place f)
-found_accepted (found_at i) = tt
-found_accepted not_found = tt
+range_accepts : (r : Option (Range ℕ)) → Accepted (of_range r)
+range_accepts (Some x) = tt
+range_accepts None = tt
+
+-- as much of p..q as lies below e
+cut_lies : (a e p q : ℕ) → a ≤ p → (r : Option (Range ℕ)) → of_range r ≡ of_run (cut p q e) → Lies a e (Ok r)
+cut_lies a e p q l None c = tt
+cut_lies a e p q l (Some x) c = by (ltb p (min q e)) refl c
+  where
+    by : (b : Bool) → ltb p (min q e) ≡ b → of_range (Some x) ≡ of_run (cond b (Some (run p (min q e))) None) → Lies a e (Ok (Some x))
+    by true t c =
+        let u : x.start ≡ p = cc in
+        let w : x.end ≡ min q e = cc in
+        let k = ltb-true p (min q e) t in
+        (omega arith, omega arith, omega arith)
+    by false t c = absurd (let z : ◌≡◌ {A = ℕ} 0 1 = cc in omega arith)
 
 module _ (h : RangeBitset) (st : List ℕ) (a e : ℕ) (k : range_refusal h (length st) e ≡ 0) where
+  found : (v : Bool) (r : Option (Range ℕ)) → Lies a e (Ok r) → ((s : Positions) → Represents h st s → of_range r ≡ of_run (next_run s v a e))
+      → NextEnsures v h st a e (Ok r)
+  found v r l q = record { lies = l; query = answered _ h st _ k (range_accepts r) q }
+
   pub next_empty : (v : Bool) → e ≤ a → NextEnsures v h st a e (Ok None)
-  next_empty v l = answered _ h st _ k tt (λ s t. ap of_place (sym (first_none s v a e (λ i p q. absurd (omega arith)))))
+  next_empty v l = found v None tt (λ s t. ap of_run (sym (next_none s v a e (λ i p q. absurd (omega arith)))))
 
-  pub next_none : h.len ≡ 0 → NextEnsures true h st a e (Ok None)
-  next_none z =
+  pub next_none_set : h.len ≡ 0 → NextEnsures true h st a e (Ok None)
+  next_none_set z =
       let l = (range_accepted h st e k).1 in
-      answered _ h st _ k tt
-      (λ s t.
-      ap of_place
-      (sym (first_none s true a e (λ i p q. len_none h st s t z i (omega arith)))))
+      found true None tt (λ s t. ap of_run (sym (next_none s true a e (λ i p q. len_none h st s t z i (omega arith)))))
 
-  pub next_fresh : a < e → h.allocated ≡ false → NextEnsures false h st a e (Ok (Some a))
+  pub next_fresh : a < e → h.allocated ≡ false → NextEnsures false h st a e (Ok (Some (record { start = a; end = e })))
   next_fresh l z =
       let m = (range_accepted h st e k).1 in
-      answered _ h st _ k tt
+      found false (Some (record { start = a; end = e })) (le_refl a, l, le_refl e)
       (λ s t.
-      ap of_place
+      ap of_run
       (sym
-      (first_at s false a e a
-      (record { low = le_refl a; high = l; value = t.fresh z a (omega arith); none_before = λ i p q. absurd (omega arith) }))))
+      (next_is s false a e a e
+      (record {
+        low = le_refl a;
+        some = l;
+        high = le_refl e;
+        before = λ i p q. absurd (omega arith);
+        own = λ i p q. t.fresh z i (omega arith);
+        stops = λ u. absurd (omega arith);
+      }))))
 
-  -- what a search needs of the storage
-  pub searchable : a < e → Room h.words st × (a < 64 * h.words)
-  searchable l = let q = range_accepted h st e k in (q.0, omega (arith, q.1))
+  searched : (v : Bool) (p q : ℕ) (r : Option (Range ℕ)) → ((s : Positions) → Represents h st s → Stored h.words st s) → RunFrom h.words a e v st p q
+      → of_range r ≡ of_run (cut p q e) → NextEnsures v h st a e (Ok r)
+  searched v p q r b n c =
+      found v r (cut_lies a e p q n.low r c) (λ s t. c ∙ ap of_run (sym (next_cut s v a e p q (n.start s (b s t)) (λ u. n.end u s (b s t)))))
 
-  searched : (v : Bool) (p : ℕ) (r : Option ℕ) → ((s : Positions) → Represents h st s → Stored h.words st s) → NextFrom h.words a v st p
-      → of_position r ≡ of_place (below p e) → NextEnsures v h st a e (Ok r)
-  searched v p r b n q =
-      answered _ h st _ k (rw q (found_accepted (below p e)))
-      (λ s t.
-      q ∙ ap of_place (sym (first_below s v a (capacity_of h) e p (n.stops s (b s t)) (range_accepted h st e k).1)))
+  pub next_one : (p q : ℕ) (r : Option (Range ℕ)) → h.len ≢ 0 → RunFrom h.words a e true st p q → of_range r ≡ of_run (cut p q e)
+      → NextEnsures true h st a e (Ok r)
+  next_one p q r z = searched true p q r (λ s t. len_begun h st s t z)
 
-  pub next_one : (p : ℕ) (r : Option ℕ) → h.len ≢ 0 → NextFrom h.words a true st p → of_position r ≡ of_place (below p e) → NextEnsures true h st a e (Ok r)
-  next_one p r z = searched true p r (λ s t. len_begun h st s t z)
-
-  pub next_zero : (p : ℕ) (r : Option ℕ) → h.allocated ≡ true → NextFrom h.words a false st p → of_position r ≡ of_place (below p e) → NextEnsures false h st a e (Ok r)
-  next_zero p r z = searched false p r (λ s t. t.begun z)
+  pub next_zero : (p q : ℕ) (r : Option (Range ℕ)) → h.allocated ≡ true → RunFrom h.words a e false st p q → of_range r ≡ of_run (cut p q e)
+      → NextEnsures false h st a e (Ok r)
+  next_zero p q r z = searched false p q r (λ s t. t.begun z)

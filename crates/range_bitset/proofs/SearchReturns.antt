@@ -1,17 +1,19 @@
 -- The searches: what the lowest bit of a candidate mask is, and that `bits_from` and `next_after` stop at the first position
--- of the value sought: one law for each return. Assumes nothing.
-use Rattle.range_bitset.proofs.Kit.{◌≡◌, refl, ap, sym, ◌∙◌, ◌≢◌, Bool, true, false, not, ◌&&◌, cond, true≢false, List, ℕ, zero, suc, ◌+◌, ◌*◌, ◌-◌, ◌/◌, ◌%◌, ◌^◌, ◌≤◌, ◌<◌, le_refl, lt_of_le_of_lt, lt_of_lt_of_le, add-zero, add-suc, dec_lt, arith, ltb, leb, bit_and, and_le_l, count_trailing_zeros, trailing_le, pow_mono, not-true, not-false, leb-true}
+-- of the value sought: one law for each return; and a run from two of them. Assumes nothing.
+use Rattle.range_bitset.proofs.Kit.{◌≡◌, refl, ap, sym, ◌∙◌, ◌≢◌, Bool, true, false, not, Bool·not-not, ◌&&◌, cond, true≢false, List, ℕ, zero, suc, ◌+◌, ◌*◌, ◌-◌, ◌/◌, ◌%◌, ◌^◌, ◌≤◌, ◌<◌, le_refl, lt_of_le_of_lt, lt_of_lt_of_le, add-zero, add-suc, dec_lt, arith, ltb, leb, bit_and, and_le_l, count_trailing_zeros, trailing_le, pow_mono, not-true, not-false, leb-true}
+use Rattle.std.specs.Prelude.{min}
 use Rattle.positions.specs.Positions.{Positions}
 use Rattle.positions.proofs.Bools.{and_left, and_right}
 use Rattle.positions.proofs.Ranges.{within_in}
 use Rattle.positions.specs.Walks.{Lacks, Stops}
+use Rattle.positions.proofs.Searches.{stops_to}
 use Rattle.bits.specs.Bit.{bit}
 use Rattle.bits.proofs.Bits.{bit_zero, bit_of_and, bit_not, bit_below}
 use Rattle.bits.proofs.Ones.{tz_below, tz_bit, tz_lt, tz_set}
 use Rattle.range_bitset.specs.Layout.{blocks, words_of}
 use Rattle.range_bitset.specs.Read.{ALL, word_read}
 use Rattle.range_bitset.specs.Represents.{word_of, closed, Stored}
-use Rattle.range_bitset.specs.Inner.{Spans, Marks, word_start, block_start, CandidateWords, CandidateBlocks, NextInWord, NextFrom, Passes}
+use Rattle.range_bitset.specs.Inner.{Spans, Marks, word_start, block_start, CandidateWords, CandidateBlocks, NextInWord, NextFrom, NextAfter, RunFrom, RunAfter, Passes}
 use Rattle.range_bitset.proofs.SetWords.{word_lt, word_bit, word_is}
 
 -- ---- ranges that lack a value
@@ -98,23 +100,34 @@ valued_bit : (v : Bool) (w i : ℕ) → w < 2 ^ 64 → i < 64 → bit (cond v w 
 valued_bit true w i h l = refl
 valued_bit false w i h l = bit_not 64 w i h l
 
--- m is what `word_bits` gives for word k
-module _ (W : ℕ) (st : List ℕ) (k : ℕ) (v : Bool) (m : ℕ) (l : k < W) (e : m ≡ cond v (word_read W st k) (ALL - word_read W st k)) where
-  pub valued : (s : Positions) → Stored W st s → (i : ℕ) → i < 64 → bit m i ≡ cond v (s (64 * k + i)) (not (s (64 * k + i)))
-  valued s h i u =
-      ap (λ (x : ℕ). bit x i) (e ∙ ap (λ (x : ℕ). cond v x (ALL - x)) (word_is W st s closed h k l))
-      ∙ valued_bit v (word_of s k) i (word_lt s k) u ∙ ap (λ (x : Bool). cond v x (not x)) (word_bit s k i u)
+-- the bits of m are the positions of word k that have the value v
+abbrev pub Valued : ℕ → List ℕ → ℕ → Bool → ℕ → Type 0
+Valued W st k v m = (s : Positions) → Stored W st s → (i : ℕ) → i < 64 → bit m i ≡ cond v (s (64 * k + i)) (not (s (64 * k + i)))
 
+-- what `word_bits` gives, and its complement
+pub valued : (W : ℕ) (st : List ℕ) (k : ℕ) (v : Bool) (m : ℕ) → k < W → m ≡ cond v (word_read W st k) (ALL - word_read W st k) → Valued W st k v m
+valued W st k v m l e s h i u =
+    ap (λ (x : ℕ). bit x i) (e ∙ ap (λ (x : ℕ). cond v x (ALL - x)) (word_is W st s closed h k l))
+    ∙ valued_bit v (word_of s k) i (word_lt s k) u ∙ ap (λ (x : Bool). cond v x (not x)) (word_bit s k i u)
+
+pub valued_not : (W : ℕ) (st : List ℕ) (k : ℕ) (v : Bool) (m : ℕ) → m < 2 ^ 64 → Valued W st k v m → Valued W st k (not v) (ALL - m)
+valued_not W st k v m l z s h i u = bit_not 64 m i l u ∙ ap not (z s h i u) ∙ turned v (s (64 * k + i))
+  where
+    turned : (v x : Bool) → not (cond v x (not x)) ≡ cond (not v) x (not x)
+    turned true x = refl
+    turned false x = Bool·not-not x
+
+module _ (W : ℕ) (st : List ℕ) (k : ℕ) (v : Bool) (m : ℕ) (z : Valued W st k v m) where
   -- position i, of word k, by its bit
   hit : (s : Positions) → Stored W st s → (i : ℕ) → 64 * k ≤ i → i < 64 * k + 64 → bit m (i - 64 * k) ≡ true → s i ≡ v
   hit s h i p q t =
       let w : 64 * k + (i - 64 * k) ≡ i = omega arith in
-      ap s (sym w) ∙ hit_of v (s (64 * k + (i - 64 * k))) (sym (valued s h (i - 64 * k) (omega arith)) ∙ t)
+      ap s (sym w) ∙ hit_of v (s (64 * k + (i - 64 * k))) (sym (z s h (i - 64 * k) (omega arith)) ∙ t)
 
   miss : (s : Positions) → Stored W st s → (i : ℕ) → 64 * k ≤ i → i < 64 * k + 64 → bit m (i - 64 * k) ≡ false → s i ≡ not v
   miss s h i p q t =
       let w : 64 * k + (i - 64 * k) ≡ i = omega arith in
-      ap s (sym w) ∙ miss_of v (s (64 * k + (i - 64 * k))) (sym (valued s h (i - 64 * k) (omega arith)) ∙ t)
+      ap s (sym w) ∙ miss_of v (s (64 * k + (i - 64 * k))) (sym (z s h (i - 64 * k) (omega arith)) ∙ t)
 
   -- `first_in_word`
   pub first_in_word : NextInWord W k v st (k * 64 + count_trailing_zeros 64 m)
@@ -122,6 +135,7 @@ module _ (W : ℕ) (st : List ℕ) (k : ℕ) (v : Bool) (m : ℕ) (l : k < W) (e
       let t = count_trailing_zeros 64 m in
       let d : k * 64 + t - 64 * k ≡ t = omega arith in
       record {
+        low = omega arith;
         high = omega (arith, trailing_le 64 m);
         stops = λ s h.
             record {
@@ -139,10 +153,7 @@ module _ (W : ℕ) (st : List ℕ) (a : ℕ) (v : Bool) (l : a < 64 * W) where
   Passed e = Passes W st a v e
 
   -- in the first word
-  module _ (m y : ℕ) (f : m < 2 ^ 64) (e : m ≡ cond v (word_read W st (a / 64)) (ALL - word_read W st (a / 64))) (g : Spans y (a % 64) 64) where
-    k : a / 64 < W
-    k = omega arith
-
+  module _ (m y : ℕ) (f : m < 2 ^ 64) (z : Valued W st (a / 64) v m) (g : Spans y (a % 64) 64) where
     pub in_first : bit_and m y ≢ 0 → NextFrom W a v st (a / 64 * 64 + count_trailing_zeros 64 (bit_and m y))
     in_first ne =
         let t = count_trailing_zeros 64 (bit_and m y) in
@@ -151,20 +162,21 @@ module _ (W : ℕ) (st : List ℕ) (a : ℕ) (v : Bool) (l : a < 64 * W) where
         let q = o.high in
         let d : a / 64 * 64 + t - 64 * (a / 64) ≡ t = omega arith in
         record {
+          low = omega arith;
           high = omega arith;
           stops = λ s h.
               record {
                 low = omega arith;
                 high = omega arith;
-                passed = λ i u w. miss W st (a / 64) v m k e s h i (omega arith) (omega arith) (o.clear (i - 64 * (a / 64)) (omega arith) (omega arith));
-                found = λ u. hit W st (a / 64) v m k e s h (a / 64 * 64 + t) (omega arith) (omega arith) (rw d o.set);
+                passed = λ i u w. miss W st (a / 64) v m z s h i (omega arith) (omega arith) (o.clear (i - 64 * (a / 64)) (omega arith) (omega arith));
+                found = λ u. hit W st (a / 64) v m z s h (a / 64 * 64 + t) (omega arith) (omega arith) (rw d o.set);
               };
         }
 
     pub not_in_first : bit_and m y ≡ 0 → Passed (64 * suc (a / 64))
-    not_in_first z s h i u w =
-        miss W st (a / 64) v m k e s h i (omega arith) (omega arith)
-        (none_masked m y (a % 64) f g z (i - 64 * (a / 64)) (omega arith) (omega arith))
+    not_in_first e s h i u w =
+        miss W st (a / 64) v m z s h i (omega arith) (omega arith)
+        (none_masked m y (a % 64) f g e (i - 64 * (a / 64)) (omega arith) (omega arith))
 
   -- a word k that has the value, and nothing of it before that word
   lands : (k r : ℕ) → k < W → a ≤ 64 * k → NextInWord W k v st r → (s : Positions) → Stored W st s → Lacks s v a (64 * k)
@@ -187,6 +199,7 @@ module _ (W : ℕ) (st : List ℕ) (a : ℕ) (v : Bool) (l : a < 64 * W) where
   ends : Passed (64 * W) → NextFrom W a v st (W * 64)
   ends h =
       record {
+        low = omega arith;
         high = omega arith;
         stops = λ s z.
             record {
@@ -225,6 +238,7 @@ module _ (W : ℕ) (st : List ℕ) (a : ℕ) (v : Bool) (l : a < 64 * W) where
           let p = found_word.low in
           let q = own in
           record {
+            low = omega (arith, n.low);
             high = omega (arith, n.high, word_there);
             stops = λ s h.
                 lands (a / 64 / 64 * 64 + t) r word_there (omega arith) n s h
@@ -299,6 +313,7 @@ module _ (W : ℕ) (st : List ℕ) (a : ℕ) (v : Bool) (l : a < 64 * W) where
               let q = block_there in
               let e = own_word in
               record {
+                low = omega (arith, n.low);
                 high = omega (arith, n.high, later_there);
                 stops = λ s h.
                     lands (b * 64 + t) r later_there (omega arith) n s h
@@ -307,3 +322,75 @@ module _ (W : ℕ) (st : List ℕ) (a : ℕ) (v : Bool) (l : a < 64 * W) where
                     skip_to s v (words_of W b) (word_start b) w (k.marks s h) 0 t (omega arith) (omega arith) low_word.clear i (omega arith) (omega arith)))
                     (λ f. (k.marks s h).has t e low_word.set (λ i u z. f i (omega arith) (omega arith)));
               }
+
+-- ---- a walk to the capacity, seen up to e; and one that has found nothing up to there
+
+module _ (W : ℕ) (st : List ℕ) (a e : ℕ) (v : Bool) (h : a ≤ e) where
+  pub up_to : (p : ℕ) → e ≤ 64 * W → NextFrom W a v st p → (s : Positions) → Stored W st s → Stops s v a e (min p e)
+  up_to p l n s t = stops_to s v a (64 * W) e p h l (n.stops s t)
+
+  none_up_to : (c : ℕ) → e ≤ c → Passes W st a v c → (s : Positions) → Stored W st s → Stops s v a e (min e e)
+  none_up_to c l o s t =
+      record { low = omega arith; high = omega arith; passed = λ i u w. o s t i u (omega arith); found = λ u. absurd (omega arith) }
+
+-- ---- the returns of `run_from`: m has the bits of its word, and the run starts at p
+
+module _ (W : ℕ) (st : List ℕ) (a e : ℕ) (v : Bool) (h : a < e) (l : e ≤ 64 * W) (m y : ℕ) (f : m < 2 ^ 64)
+    (b : m ≡ cond v (word_read W st (a / 64)) (ALL - word_read W st (a / 64))) (g : Spans y (a % 64) 64) where
+  its_bits : Valued W st (a / 64) v m
+  its_bits = valued W st (a / 64) v m (omega arith) b
+
+  pub no_start : bit_and m y ≡ 0 → Passes W st a v (64 * suc (a / 64))
+  no_start = not_in_first W st a v (omega arith) m y f its_bits g
+
+  -- nor is there one up to the next word
+  pub run_none : bit_and m y ≡ 0 → e ≤ 64 * (a / 64) + 64 → RunFrom W a e v st e e
+  run_none z k =
+      record { low = omega arith; start = none_up_to W st a e v (omega arith) (64 * suc (a / 64)) (omega arith) (no_start z); end = λ u. absurd (omega arith) }
+
+  module _ (ne : bit_and m y ≢ 0) where
+    abbrev pub p : ℕ
+    p = a / 64 * 64 + count_trailing_zeros 64 (bit_and m y)
+
+    same_word : p / 64 ≡ a / 64
+    same_word = let t = (lowest_masked m y (a % 64) f g ne).high in omega arith
+
+    pub start_there : p < 64 * W
+    start_there = omega (arith, same_word)
+
+    starts : NextFrom W a v st p
+    starts = in_first W st a v (omega arith) m y f its_bits g ne
+
+    run_to : (q : ℕ) → (p < e → (s : Positions) → Stored W st s → Stops s (not v) p e (min q e)) → RunFrom W a e v st p q
+    run_to q k = record { low = starts.low; start = up_to W st a e v (omega arith) p l starts; end = k }
+
+    module _ (x : ℕ) (i : Spans x (p % 64) 64) where
+      others : Valued W st (p / 64) (not v) (ALL - m)
+      others = rw same_word (valued_not W st (a / 64) v m f its_bits)
+
+      no_end : bit_and (ALL - m) x ≡ 0 → Passes W st p (not v) (64 * suc (p / 64))
+      no_end = not_in_first W st p (not v) start_there (ALL - m) x (omega arith) others i
+
+      pub run_in_word : bit_and (ALL - m) x ≢ 0 → RunFrom W a e v st p (a / 64 * 64 + count_trailing_zeros 64 (bit_and (ALL - m) x))
+      run_in_word z =
+          run_to (a / 64 * 64 + count_trailing_zeros 64 (bit_and (ALL - m) x))
+          (λ u. up_to W st p e (not v) (omega arith) (a / 64 * 64 + count_trailing_zeros 64 (bit_and (ALL - m) x)) l
+          (rw same_word at (in_first W st p (not v) start_there (ALL - m) x (omega arith) others i z)))
+
+      -- up to the end of the range, which is no further than the next word
+      pub run_whole : bit_and (ALL - m) x ≡ 0 → e ≤ 64 * (a / 64) + 64 → RunFrom W a e v st p e
+      run_whole z k = run_to e (λ u. none_up_to W st p e (not v) (omega arith) (64 * suc (p / 64)) (omega (arith, same_word)) (no_end z))
+
+      pub run_on : bit_and (ALL - m) x ≡ 0 → (q : ℕ) → NextAfter W p (not v) st q → RunFrom W a e v st p q
+      run_on z q n = run_to q (λ u. up_to W st p e (not v) (omega arith) q l (n (no_end z)))
+
+-- ---- the returns of `run_after`, whose search stopped at p
+
+module _ (W : ℕ) (st : List ℕ) (a e : ℕ) (v : Bool) (p : ℕ) (h : a < e) (l : e ≤ 64 * W) (n : NextAfter W a v st p) where
+  pub run_past : e ≤ p → RunAfter W a e v st e e
+  run_past k o =
+      record { low = omega arith; start = none_up_to W st a e v (omega arith) p k (λ s t. ((n o).stops s t).passed); end = λ u. absurd (omega arith) }
+
+  pub run_later : (q : ℕ) → NextFrom W p (not v) st q → RunAfter W a e v st p q
+  run_later q m o =
+      record { low = (n o).low; start = up_to W st a e v (omega arith) p l (n o); end = λ u. up_to W st p e (not v) (omega arith) q l m }

@@ -1,16 +1,17 @@
 -- What the entries answer, and the reply of each answer; and the refusals, in 01's order.
 -- Assumes nothing.
 use Rattle.std.specs.Prelude.{ℕ, ◌/◌, ◌%◌, Bool, cond, ◌&&◌, ◌==◌, nat_le, nat_lt, Option, Result}
+use Rattle.std.specs.declared.ops.Range.{Range}
 use Rattle.positions.specs.Positions.{one}
 use Rattle.positions.specs.Replies.{Reply, number}
-use Rattle.answers.specs.Refusals.{of_result, of_position, answer_in}
+use Rattle.answers.specs.Refusals.{of_result, of_position, of_range, answer_in}
 use Rattle.answers.specs.declared.Refusal.{Refusal}
 use Rattle.answers.specs.declared.Changed.{Changed}
 use Rattle.range_bitset.specs.Layout.{allowed, needed}
 use Rattle.range_bitset.specs.Represents.{capacity_of}
 use Rattle.range_bitset.specs.declared.RangeBitset.{RangeBitset}
 
--- a head, a count, a truth, or a position or none: or why the call is refused. Those that change the set give the head too
+-- a head, a count, a truth, a run or none, a position or none: or why the call is refused. Those that change the set give the head too
 abbrev pub Made : Type 0
 Made = Result RangeBitset Refusal
 
@@ -21,7 +22,10 @@ abbrev pub Tested : Type 0
 Tested = Result Bool Refusal
 
 abbrev pub Found : Type 0
-Found = Result (Option ℕ) Refusal
+Found = Result (Option (Range ℕ)) Refusal
+
+abbrev pub Placed : Type 0
+Placed = Result (Option ℕ) Refusal
 
 abbrev pub Assigned : Type 0
 Assigned = Result (Changed ℕ RangeBitset) Refusal
@@ -29,7 +33,7 @@ Assigned = Result (Changed ℕ RangeBitset) Refusal
 abbrev pub Updated : Type 0
 Updated = Result (Changed Bool RangeBitset) Refusal
 
--- a count; a truth, as 1 or 0; a position or none
+-- a count; a truth, as 1 or 0; a run or none; a position or none
 abbrev pub of_counted : Counted → Reply
 of_counted r = of_result number r
 
@@ -37,7 +41,10 @@ abbrev pub of_tested : Tested → Reply
 of_tested r = of_result (λ b. number (one b)) r
 
 abbrev pub of_found : Found → Reply
-of_found r = of_result of_position r
+of_found r = of_result of_range r
+
+abbrev pub of_placed : Placed → Reply
+of_placed r = of_result of_position r
 
 abbrev pub of_assigned : Assigned → Reply
 of_assigned r = of_counted (answer_in r)

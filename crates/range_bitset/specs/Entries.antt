@@ -1,12 +1,13 @@
 -- The set's promises: one definition for each entry. `st` is the storage at entry, `st'` at exit. Assumes nothing.
-use Rattle.std.specs.Prelude.{◌≡◌, ℕ, suc, ◌/◌, Bool, true, false, cond, not, ◌&&◌, ◌||◌, List, length, ◌≢◌, nat_lt, Ok, Err}
-use Rattle.positions.specs.Positions.{Positions, none, assigned, count, changed_count, first, one, select}
+use Rattle.std.specs.Prelude.{◌≡◌, ℕ, suc, ◌/◌, ◌<◌, ◌≤◌, Bool, true, false, cond, not, ◌&&◌, ◌||◌, List, length, ◌≢◌, nat_lt, Some, None, Ok, Err}
+use Rattle.positions.specs.Positions.{Positions, none, assigned, count, changed_count, one, select}
+use Rattle.positions.specs.Runs.{next_run}
 use Rattle.range_bitset.specs.Layout.{SamePast}
 use Rattle.range_bitset.specs.Represents.{Represents, capacity_of}
-use Rattle.positions.specs.Replies.{Reply, number, refusal, of_place, refused, Accepted}
+use Rattle.positions.specs.Replies.{Reply, number, refusal, of_place, of_run, refused, Accepted}
 use Rattle.answers.specs.Refusals.{head_after}
 use Rattle.answers.specs.declared.Refusal.TheVariants.{Size}
-use Rattle.range_bitset.specs.Answers.{Made, Counted, Tested, Found, Assigned, Updated, of_counted, of_tested, of_found, of_assigned, of_updated, allowed_capacity, good_head, storage_refusal, range_refusal, point_refusal}
+use Rattle.range_bitset.specs.Answers.{Made, Counted, Tested, Found, Placed, Assigned, Updated, of_counted, of_tested, of_found, of_placed, of_assigned, of_updated, allowed_capacity, good_head, storage_refusal, range_refusal, point_refusal}
 use Rattle.range_bitset.specs.declared.RangeBitset.{RangeBitset}
 
 -- ---- the shape of a query's promise and of a change's
@@ -58,13 +59,20 @@ GetEnsures h st i r = Answers (point_refusal h (length st) i) h st (λ s. number
 abbrev pub CountEnsures : RangeBitset → List ℕ → ℕ → ℕ → Counted → Type 0
 CountEnsures h st a e r = Answers (range_refusal h (length st) e) h st (λ s. number (count s a e)) (of_counted r)
 
--- `next_one` and `next_zero`: the first position of value v
-abbrev pub NextEnsures : Bool → RangeBitset → List ℕ → ℕ → ℕ → Found → Type 0
-NextEnsures v h st a e r = Answers (range_refusal h (length st) e) h st (λ s. of_place (first s v a e)) (of_found r)
+-- a run that is found lies in a..e, and has a position
+abbrev pub Lies : ℕ → ℕ → Found → Type 0
+Lies a e (Ok (Some r)) = (a ≤ r.start) × (r.start < r.end) × (r.end ≤ e)
+Lies a e (Ok None) = Unit {0}
+Lies a e (Err k) = Unit {0}
+
+-- `next_one` and `next_zero`: the run of value v that starts first; on any memory it lies in a..e
+pub record NextEnsures (v : Bool) (h : RangeBitset) (st : List ℕ) (a e : ℕ) (r : Found) : Type 0 where
+  pub lies : Lies a e r
+  pub query : Answers (range_refusal h (length st) e) h st (λ s. of_run (next_run s v a e)) (of_found r)
 
 -- the n-th position, n from 0
-abbrev pub SelectEnsures : RangeBitset → List ℕ → ℕ → Found → Type 0
-SelectEnsures h st n r = Answers (storage_refusal h (length st)) h st (λ s. of_place (select s n (capacity_of h))) (of_found r)
+abbrev pub SelectEnsures : RangeBitset → List ℕ → ℕ → Placed → Type 0
+SelectEnsures h st n r = Answers (storage_refusal h (length st)) h st (λ s. of_place (select s n (capacity_of h))) (of_placed r)
 
 abbrev pub AssignEnsures : RangeBitset → List ℕ → ℕ → ℕ → Bool → Assigned → List ℕ → Type 0
 AssignEnsures h st a e v r st' =

@@ -182,11 +182,13 @@ pub record CandidateBlocks (W : ℕ) (v : Bool) (st : List ℕ) (r : ℕ) : Type
 
 -- the first position of word k of value v, or where the next word starts
 pub record NextInWord (W k : ℕ) (v : Bool) (st : List ℕ) (r : ℕ) : Type 0 where
+  pub low : 64 * k ≤ r
   pub high : r ≤ 64 * k + 64
   pub stops : (s : Positions) → Stored W st s → Stops s v (64 * k) (64 * k + 64) r
 
 -- the first position at or after a of value v, or the capacity
 pub record NextFrom (W a : ℕ) (v : Bool) (st : List ℕ) (r : ℕ) : Type 0 where
+  pub low : a ≤ r
   pub high : r ≤ 64 * W
   pub stops : (s : Positions) → Stored W st s → Stops s v a (64 * W) r
 
@@ -202,6 +204,16 @@ pub record BitsFrom (W a : ℕ) (v : Bool) (st : List ℕ) (r : ℕ) : Type 0 wh
 -- where that word has none: the first position after it, or the capacity
 abbrev pub NextAfter : ℕ → ℕ → Bool → List ℕ → ℕ → Type 0
 NextAfter W a v st r = Passes W st a v (64 * suc (a / 64)) → NextFrom W a v st r
+
+-- p..q is the first run of value v in a..e, as far as it lies below e
+pub record RunFrom (W a e : ℕ) (v : Bool) (st : List ℕ) (p q : ℕ) : Type 0 where
+  pub low : a ≤ p
+  pub start : (s : Positions) → Stored W st s → Stops s v a e (min p e)
+  pub end : p < e → (s : Positions) → Stored W st s → Stops s (not v) p e (min q e)
+
+-- where the word of a has none
+abbrev pub RunAfter : ℕ → ℕ → ℕ → Bool → List ℕ → ℕ → ℕ → Type 0
+RunAfter W a e v st p q = Passes W st a v (64 * suc (a / 64)) → RunFrom W a e v st p q
 
 -- ---- the n-th bit of a word
 

@@ -1,15 +1,16 @@
-// Searching a range for its first set or clear position. Assumes nothing.
-ghost use Rattle.std.specs.Prelude.{◌≡◌, ◌-◌, ◌*◌, ◌<◌, true, false, if◌then◌else◌};
-ghost use Rattle.positions.specs.Walks.{below};
+// Searching a range for its first run of set or of clear positions. Assumes nothing.
+ghost use Rattle.std.specs.Prelude.{◌≡◌, ◌-◌, ◌*◌, ◌<◌, ◌≤◌, true, false, if◌then◌else◌};
+ghost use Rattle.positions.specs.Walks.{cut};
 ghost use Rattle.range_bitset.specs.Layout.{blocks, at};
 ghost use Rattle.range_bitset.specs.Read.{ALL, word_read};
-ghost use Rattle.positions.specs.Replies.{of_place};
-ghost use Rattle.answers.specs.Refusals.{of_position};
+ghost use Rattle.positions.specs.Replies.{of_run};
+ghost use Rattle.answers.specs.Refusals.{of_range};
 ghost use Rattle.range_bitset.specs.Entries.{NextEnsures};
-ghost use Rattle.range_bitset.specs.Inner.{Room, CandidateWords, CandidateBlocks, NextInWord, NextFrom, NextAfter, BitsFrom};
+ghost use Rattle.range_bitset.specs.Inner.{Room, CandidateWords, CandidateBlocks, NextInWord, NextFrom, NextAfter, BitsFrom, RunFrom, RunAfter};
 
 use crate::{RangeBitset, State, View, above, rest, span};
 use answers::Refusal;
+use std::ops::Range;
 
 impl View<'_> {
     // Words of `block` holding at least one position equal to `value`.
@@ -68,62 +69,119 @@ impl View<'_> {
         self.word_bits(from / 64, value) & rest(from % 64)
     }
 
-    // The Rust's `next_from`, with the capacity in place of `None`, in two parts so that a search that ends in its first word is compiled
-    // in line. Its value is a const parameter, so that either search is compiled by itself.
-    fn next_from<const VALUE: bool>(self, from: usize) -> usize
+    // First position after the word of `from` equal to `value`, or the capacity, where the word of `from` has none.
+    #[inline(always)]
+    fn next_after(self, from: usize, value: bool) -> usize
         requires { from < 64 * self.words }
-        ensures { NextFrom self.entry.words from VALUE self.entry.storage.now result }
+        ensures { NextAfter self.entry.words from value self.entry.storage.now result }
     {
-        let bits = self.bits_from(from, VALUE);
+        let word = from / 64;
+        let block = word / 64;
+        let later_words = self.candidate_words(block, value) & above(word % 64);
+        if later_words != 0 {
+            let next_word = block * 64 + later_words.trailing_zeros() as usize;
+            return self.first_in_word(next_word, value);
+        }
+        let later_blocks = self.candidate_blocks(value) & above(block);
+        if later_blocks == 0 {
+            return self.words * 64;
+        }
+        let next_block = later_blocks.trailing_zeros() as usize;
+        let in_block = self.candidate_words(next_block, value);
+        if in_block == 0 {
+            return self.words * 64;
+        }
+        let next_word = next_block * 64 + in_block.trailing_zeros() as usize;
+        self.first_in_word(next_word, value)
+    }
+
+    // The Rust's `next_from`, with the capacity in place of `None`.
+    fn next_from(self, from: usize, value: bool) -> usize
+        requires { from < 64 * self.words }
+        ensures { NextFrom self.entry.words from value self.entry.storage.now result }
+    {
+        let bits = self.bits_from(from, value);
         if bits != 0 {
             return from / 64 * 64 + bits.trailing_zeros() as usize;
         }
-        RangeBitset::next_after(self.storage, self.words, from, VALUE)
+        RangeBitset::end_after(self.storage, self.words, from, value)
+    }
+
+    // The first run of the value in `from..end`; a start or an end past that may be any. What the first word tells is found in line, from one
+    // reading of the word, and calls nothing. The value is a const parameter, so that either search is compiled by itself.
+    fn run_from<const VALUE: bool>(self, from: usize, end: usize) -> Range<usize>
+        requires { (from < end) × (end ≤ 64 * self.words) }
+        ensures { RunFrom self.entry.words from end VALUE self.entry.storage.now result.start result.end }
+    {
+        let word = from / 64;
+        let next = 64 * word + 64;
+        let bits = self.word_bits(word, VALUE);
+        let later = bits & rest(from % 64);
+        if later == 0 {
+            if end <= next {
+                return end..end;
+            }
+            return RangeBitset::run_after(self.storage, self.words, from, end, VALUE);
+        }
+        let start = word * 64 + later.trailing_zeros() as usize;
+        let others = !bits & rest(start % 64);
+        if others != 0 {
+            return start..word * 64 + others.trailing_zeros() as usize;
+        }
+        if end <= next {
+            return start..end;
+        }
+        start..RangeBitset::end_after(self.storage, self.words, start, !VALUE)
     }
 }
 
 impl RangeBitset {
-    // First position at or after `from` equal to `value`, or the capacity, where the word of `from` has none.
-    // Called and not copied, so it takes storage and words one by one: a `View` goes through memory, and a search took up to 8 % longer.
-    fn next_after(storage: &[u64], words: usize, from: usize, value: bool) -> usize
-        requires { Room words storage.now × (from < 64 * words) }
-        ensures { NextAfter words from value storage.now result }
+    // The next two are called and not copied, so they take storage and words one by one: a `View` goes through memory, and a search took up to 8 %
+    // longer.
+
+    // Where a run ends that goes on past the word of `start`, whose positions lack `value`.
+    fn end_after(storage: &[u64], words: usize, start: usize, value: bool) -> usize
+        requires { Room words storage.now × (start < 64 * words) }
+        ensures { NextAfter words start value storage.now result }
     {
         let view = View { storage, words };
-        let word = from / 64;
-        let block = word / 64;
-        let later_words = view.candidate_words(block, value) & above(word % 64);
-        if later_words != 0 {
-            let next_word = block * 64 + later_words.trailing_zeros() as usize;
-            return view.first_in_word(next_word, value);
-        }
-        let later_blocks = view.candidate_blocks(value) & above(block);
-        if later_blocks == 0 {
-            return words * 64;
-        }
-        let next_block = later_blocks.trailing_zeros() as usize;
-        let in_block = view.candidate_words(next_block, value);
-        if in_block == 0 {
-            return words * 64;
-        }
-        let next_word = next_block * 64 + in_block.trailing_zeros() as usize;
-        view.first_in_word(next_word, value)
+        view.next_after(start, value)
     }
 
-    // A position that was found, if it is below `end`.
-    fn below(at: usize, end: usize) -> Option<usize>
-        ensures { of_position result ≡ of_place (below at end) }
+    // The first run of the value in `from..end`, where the word of `from` has none.
+    fn run_after(
+        storage: &[u64],
+        words: usize,
+        from: usize,
+        end: usize,
+        value: bool,
+    ) -> Range<usize>
+        requires { Room words storage.now × (from < end) × (end ≤ 64 * words) }
+        ensures { RunAfter words from end value storage.now result.start result.end }
     {
-        (at < end).then_some(at)
+        let view = View { storage, words };
+        let start = view.next_after(from, value);
+        if start >= end {
+            return end..end;
+        }
+        start..view.next_from(start, !value)
     }
 
-    // First set position in `from..end`. 01 names the two searches, and they differ in what they know beforehand.
+    // As much of a run as lies below `end`, if any of it does. On memory that is no set's a run may have no position.
+    fn cut(run: Range<usize>, end: usize) -> Option<Range<usize>>
+        ensures { of_range result ≡ of_run (cut run.start run.end end) }
+    {
+        let end = run.end.min(end);
+        (run.start < end).then_some(run.start..end)
+    }
+
+    // First run of set positions in `from..end`. 01 names the two searches, and they differ in what they know beforehand.
     pub fn next_one(
         self,
         storage: &[u64],
         from: usize,
         end: usize,
-    ) -> Result<Option<usize>, Refusal>
+    ) -> Result<Option<Range<usize>>, Refusal>
         ensures { NextEnsures true self storage.now from end result }
     {
         self.check_range(storage.len(), end)?;
@@ -132,16 +190,16 @@ impl RangeBitset {
         }
         let words = self.words as usize;
         let view = View { storage, words };
-        Ok(Self::below(view.next_from::<true>(from), end))
+        Ok(Self::cut(view.run_from::<true>(from, end), end))
     }
 
-    // First clear position in `from..end`.
+    // First run of clear positions in `from..end`.
     pub fn next_zero(
         self,
         storage: &[u64],
         from: usize,
         end: usize,
-    ) -> Result<Option<usize>, Refusal>
+    ) -> Result<Option<Range<usize>>, Refusal>
         ensures { NextEnsures false self storage.now from end result }
     {
         self.check_range(storage.len(), end)?;
@@ -149,10 +207,10 @@ impl RangeBitset {
             return Ok(None);
         }
         if !self.allocated {
-            return Ok(Some(from));
+            return Ok(Some(from..end));
         }
         let words = self.words as usize;
         let view = View { storage, words };
-        Ok(Self::below(view.next_from::<false>(from), end))
+        Ok(Self::cut(view.run_from::<false>(from, end), end))
     }
 }

@@ -22,15 +22,28 @@ fn say<T: Display + Drop>(
     }
 }
 
-// A search, which may find nothing.
+// A position, or none.
+fn say_place(
+    rt: &impl Print,
+    call: impl Display + Drop,
+    place: Result<Option<usize>, Refusal>,
+) -> io::Result<()> {
+    match place.transpose() {
+        Some(at) => say(rt, call, at),
+        None => println!(rt; "{call}: none"),
+    }
+}
+
+// The run that a search finds, or none. 01 gives its start; its end is read off the calls before it.
 fn say_found(
     rt: &impl Print,
     call: impl Display + Drop,
-    found: Result<Option<usize>, Refusal>,
+    found: Result<Option<Range<usize>>, Refusal>,
 ) -> io::Result<()> {
-    match found.transpose() {
-        Some(at) => say(rt, call, at),
-        None => println!(rt; "{call}: none"),
+    match found {
+        Ok(Some(run)) => println!(rt; "{call}: {} to {}", run.start, run.end),
+        Ok(None) => println!(rt; "{call}: none"),
+        Err(refusal) => say::<u32>(rt, call, Err(refusal)),
     }
 }
 
@@ -79,7 +92,7 @@ fn select(
     ordinals: &[usize],
 ) -> io::Result<()> {
     for &n in ordinals {
-        say_found(rt, format_args!("select {n}"), head.select(storage, n))?;
+        say_place(rt, format_args!("select {n}"), head.select(storage, n))?;
     }
     Ok(())
 }

@@ -46,12 +46,8 @@ fn parse(line: &str) -> Option<Call> {
     fields.next().is_none().then_some(call)
 }
 
-// Makes a call; answers a number, or None where a search finds nothing.
-fn perform(
-    head: &mut RangeBitset,
-    storage: &mut [u64],
-    call: Call,
-) -> Result<Option<usize>, Refusal> {
+// Makes a call; gives what is printed for it, of the run that a search finds the start, as the Rust does.
+fn perform(head: &mut RangeBitset, storage: &mut [u64], call: Call) -> Result<Answer, Refusal> {
     let number = match call {
         Call::New(capacity) => {
             *head = RangeBitset::new(capacity)?;
@@ -62,12 +58,12 @@ fn perform(
         Call::Clear => head.clear(storage)?.store(head),
         Call::Get(index) => head.get(storage, index)?.into(),
         Call::Count(start, end) => head.count(storage, start, end)?,
-        Call::NextOne(from, end) => return head.next_one(storage, from, end),
-        Call::NextZero(from, end) => return head.next_zero(storage, from, end),
+        Call::NextOne(from, end) => return Ok(head.next_one(storage, from, end).into()),
+        Call::NextZero(from, end) => return Ok(head.next_zero(storage, from, end).into()),
         Call::Len => head.len()?,
         Call::Capacity => head.capacity()?,
     };
-    Ok(Some(number as usize))
+    Ok(Answer::Number(number))
 }
 
 // Answers a line. The Rust's list has `-` where an answer's text is `none`.
@@ -81,8 +77,9 @@ fn answer(
         return say::print(out, Answer::BadLine).1;
     };
     match perform(head, storage, call) {
-        Ok(None) => writeln!(out, "-"),
-        found => say::print(out, found.into()).1,
+        Ok(Answer::Nothing) => writeln!(out, "-"),
+        Ok(answer) => say::print(out, answer).1,
+        Err(refusal) => say::print(out, Answer::Refused(refusal.into())).1,
     }
 }
 

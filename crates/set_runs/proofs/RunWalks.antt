@@ -1,18 +1,16 @@
--- Laws of the walk: a search's place, the runs by two searches each, counted, few enough, and written by those above, each run as
--- the numbers that `code` makes of it. Assumes nothing.
-use Rattle.set_runs.proofs.Kit.{◌≡◌, refl, sym, ap, ◌∙◌, ◌⊎◌, inl, inr, Bool, true, false, not, Bool·not-not, List, [], ◌∷◌, ◌++◌, append_assoc, append-nil, ℕ, ◌+◌, ◌*◌, ◌-◌, ◌%◌, ◌≤◌, ◌<◌, arith, leb-true, leb-false, le-leb, lt-leb, leb, length, get_or, take, subst, ◌^◌, ap₂, dec_lt}
-use Rattle.positions.specs.Positions.{Positions, Place, found_at, not_found, first}
-use Rattle.positions.specs.Runs.{Run, run, place_or, run_end, changed_runs, encoded}
-use Rattle.positions.proofs.Searches.{Searched, hit, miss, first_means}
+-- Laws of the walk: the runs by a search each, counted, few enough, and written by those above, each run as the numbers that `code`
+-- makes of it. Assumes nothing.
+use Rattle.set_runs.proofs.Kit.{◌≡◌, refl, sym, ap, ◌∙◌, ◌⊎◌, inl, inr, Bool, true, false, not, List, [], ◌∷◌, ◌++◌, append_assoc, append-nil, ℕ, ◌+◌, ◌*◌, ◌-◌, ◌≤◌, ◌<◌, arith, leb-true, leb-false, le-leb, lt-leb, leb, length, get_or, take, subst, dec_lt}
+use Rattle.positions.specs.Positions.{Positions}
+use Rattle.positions.specs.Runs.{Run, run, next_run, changed_runs, encoded}
+use Rattle.positions.specs.Replies.{of_run}
 use Rattle.positions.proofs.Changes.{changed_none, changed_next, changed_few}
-use Rattle.positions.proofs.Runs.{runs_empty}
 use Rattle.range_bitset.specs.Represents.{Represents}
-use Rattle.positions.specs.Replies.{of_place}
-use Rattle.range_bitset.specs.Answers.{Found, of_found}
+use Rattle.range_bitset.specs.Answers.{Found, of_found, range_refusal}
 use Rattle.range_bitset.specs.Entries.{NextEnsures}
 use Rattle.std.proofs.Common.{Ok, Err, Option, Some, None}
-use Rattle.answers.specs.Refusals.{of_position}
-use Rattle.range_bitset.specs.Answers.{range_refusal}
+use Rattle.answers.specs.Refusals.{of_range}
+use Rattle.std.specs.Result.{result_unwrap_or}
 use Rattle.range_bitset.specs.declared.RangeBitset.{RangeBitset}
 use Rattle.range_bitset.proofs.AcceptedHeads.{range_accepted}
 use Rattle.std.specs.declared.ops.Range.{Range}
@@ -21,55 +19,48 @@ use Rattle.set_runs.specs.declared.Runs.{Runs}
 use Rattle.std.specs.declared.iter.Take.{Take}
 use Rattle.std.specs.Iterator.{YieldsThen}
 use Rattle.std.specs.Iterator.Adapters.{take_steps}
-use Rattle.set_runs.specs.Walks.{Finds, FindsRun, RunsFit, CountsRuns, WritesRuns}
+use Rattle.set_runs.specs.Walks.{Finds, RunsFit, CountsRuns, WritesRuns}
 
--- ---- a search, read as a place
+-- ---- a search of the set: what it answers, and that a run that it finds is within the largest capacity
 
-found_as : (f : Place) (p : ℕ) → of_position (Some p) ≡ of_place f → f ≡ found_at p
-found_as (found_at i) p e = cc
-found_as not_found p e = cc
+abbrev found_in : Found → Option (Range ℕ)
+found_in r = result_unwrap_or r None
 
-pub found_not : (f : Place) → of_position None ≡ of_place f → f ≡ not_found
-found_not (found_at i) e = cc
-found_not not_found e = refl
-
--- what a search of the set answers
-abbrev pub found_in : Found → Option ℕ
-found_in (Ok p) = p
-found_in (Err k) = None
-
-pub found_place : (h : RangeBitset) (st : List ℕ) (a e : ℕ) (v : Bool) (r : Found) → NextEnsures v h st a e r → Finds h st a e v (found_in r)
-found_place h st a e v r q z s t = by r (first s v a e) (q.answers z s t)
+pub found_run : (h : RangeBitset) (st : List ℕ) (a e : ℕ) (v : Bool) (r : Found) → NextEnsures (not v) h st a e r → Finds h st a e v (found_in r)
+found_run h st a e v r n = record { ahead = lies r n; first = λ z s t. same r (next_run s (not v) a e) (n.query.answers z s t) }
   where
-    by : (r : Found) (f : Place) → of_found r ≡ of_place f → of_position (found_in r) ≡ of_place f
-    by (Ok p) f x = x
-    by (Err k) (found_at i) x = cc
-    by (Err k) not_found x = cc
+    lies : (r : Found) → NextEnsures (not v) h st a e r → (q : Range ℕ) → found_in r ≡ Some q → (a ≤ q.start) × (q.start < q.end) × (q.end ≤ e) × (e ≤ 262144)
+    lies (Ok (Some x)) n q k =
+        let b = range_accepted h st e (sym n.query.refuses) in
+        let same : x ≡ q = cc in
+        rw (← same) (n.lies.0, n.lies.1, n.lies.2, omega (arith, b.0.most, b.1))
+    lies (Ok None) n q k = absurd (let z : ◌≡◌ {A = ℕ} 0 1 = cc in omega arith)
+    lies (Err x) n q k = absurd (let z : ◌≡◌ {A = ℕ} 0 1 = cc in omega arith)
 
--- ---- the changed runs by two searches: p the first position to change, q the first behind it that is not
+    same : (r : Found) (f : Option Run) → of_found r ≡ of_run f → of_range (found_in r) ≡ of_run f
+    same (Ok x) f k = k
+    same (Err x) (Some y) k = cc
+    same (Err x) None k = cc
 
-no_run : (s : Positions) (a e : ℕ) (v : Bool) → first s (not v) a e ≡ not_found → changed_runs s a e v ≡ []
-unfolding changed_runs
-no_run s a e v k = by (leb a e) refl
-  where
-    by : (l : Bool) → leb a e ≡ l → changed_runs s a e v ≡ []
-    by true y = changed_none s a e v (leb-true a e y) k
-    by false y = runs_empty _ a e (omega (arith, leb-false a e y))
+-- ---- the changed runs, one by each search, on the memory that was searched
 
-next_run : (s : Positions) (a e : ℕ) (v : Bool) (p q : ℕ) → first s (not v) a e ≡ found_at p → q ≡ place_or e (first s v p e)
-    → changed_runs s a e v ≡ run p q ∷ changed_runs s q e v
-unfolding run_end
-next_run s a e v p q k y =
-    let ends : q ≡ run_end s (not v) p e = rw Bool·not-not y in
-    rw ends (changed_next s a e v p k)
+none_of : (f : Option Run) → of_range None ≡ of_run f → f ≡ None
+none_of (Some x) k = absurd (let z : ◌≡◌ {A = ℕ} 0 1 = cc in omega arith)
+none_of None k = refl
 
--- the same on the memory that was searched
+run_of : (f : Option Run) (q : Range ℕ) → of_range (Some q) ≡ of_run f → f ≡ Some (run q.start q.end)
+run_of (Some x) q k =
+    let a : q.start ≡ x.start = cc in
+    let b : q.end ≡ x.end = cc in
+    rw (a, b) refl
+run_of None q k = absurd (let z : ◌≡◌ {A = ℕ} 0 1 = cc in omega arith)
+
 module _ (h : RangeBitset) (st : List ℕ) (from e : ℕ) (v : Bool) (z : range_refusal h (length st) e ≡ 0) (s : Positions) (r : Represents h st s) where
-  pub none_left : Finds h st from e (not v) None → changed_runs s from e v ≡ []
-  none_left x = no_run s from e v (found_not _ (x z s r))
+  pub none_left : Finds h st from e v None → changed_runs s from e v ≡ []
+  none_left x = changed_none s from e v (none_of _ (x.first z s r))
 
-  pub run_found : (p q : ℕ) → FindsRun h st from e v p q → changed_runs s from e v ≡ run p q ∷ changed_runs s q e v
-  run_found p q x = next_run s from e v p q (found_as _ p (x.start z s r)) (x.end z s r)
+  pub run_found : (q : Range ℕ) → Finds h st from e v (Some q) → changed_runs s from e v ≡ run q.start q.end ∷ changed_runs s q.end e v
+  run_found q x = changed_next s from e v q.start q.end (run_of _ q (x.first z s r))
 
 -- ---- the iterator
 
@@ -93,11 +84,8 @@ module _ (h : RangeBitset) (st : List ℕ) (e : ℕ) (v : Bool) (x : Runs) (a : 
         value_is = g.same_value ∙ a.value_is;
       }
 
-  pub along_some : (q : Range ℕ) (x' : Runs) → GivesRun x (Some q) x' → (p : ℕ) × (q.start ≡ p % 2 ^ 32) × (q.end ≡ x'.from % 2 ^ 32) × FindsRun h st x.from e v p x'.from
-  along_some q x' g = rw (← a.set_is, ← a.storage_is, ← a.end_is, ← a.value_is) (g.some q refl)
-
-  pub along_none : (x' : Runs) → GivesRun x None x' → Finds h st x.from e (not v) None
-  along_none x' g = rw (← a.set_is, ← a.storage_is, ← a.end_is, ← a.value_is) (g.none refl)
+  pub along_finds : (r : Option (Range ℕ)) (x' : Runs) → GivesRun x r x' → Finds h st x.from e v r
+  along_finds r x' g = rw (← a.set_is, ← a.storage_is, ← a.end_is, ← a.value_is) g.finds
 
 -- ---- counting
 
@@ -110,13 +98,13 @@ Counting h st a e v n from =
 pub counting_start : (h : RangeBitset) (st : List ℕ) (a e : ℕ) (v : Bool) → Counting h st a e v 0 a
 counting_start h st a e v z s r = omega arith
 
-pub counting_next : (h : RangeBitset) (st : List ℕ) (a e : ℕ) (v : Bool) (n from p q : ℕ)
-    → FindsRun h st from e v p q → Counting h st a e v n from → Counting h st a e v (n + 1) q
-counting_next h st a e v n from p q x k z s r =
-    omega (arith, k z s r, ap length (run_found h st from e v z s r p q x))
+pub counting_next : (h : RangeBitset) (st : List ℕ) (a e : ℕ) (v : Bool) (n from : ℕ) (q : Range ℕ)
+    → Finds h st from e v (Some q) → Counting h st a e v n from → Counting h st a e v (n + 1) q.end
+counting_next h st a e v n from q x k z s r =
+    omega (arith, k z s r, ap length (run_found h st from e v z s r q x))
 
 pub counting_done : (h : RangeBitset) (st : List ℕ) (a e : ℕ) (v : Bool) (most n from : ℕ)
-    → Finds h st from e (not v) None → n ≤ most → Counting h st a e v n from → CountsRuns h st a e v most n
+    → Finds h st from e v None → n ≤ most → Counting h st a e v n from → CountsRuns h st a e v most n
 counting_done h st a e v most n from x m k =
     record { most_runs = m; counted = λ z s r. omega (arith, k z s r, ap length (none_left h st from e v z s r x)) }
 
@@ -132,12 +120,11 @@ counted h st a e v most n r [] x u w m l k (t, same, g) = let same_number : n �
     by : Dec (0 < x.n) → CountsRuns h st a e v most n
     by (yes p) =
         let ends = subst (λ (y : Take Runs). take_steps GivesRun y None u) (sym same) g p in
-        counting_done h st a e v most n x.iter.from (along_none h st e v x.iter w u.iter ends) (omega arith) k
+        counting_done h st a e v most n x.iter.from (along_finds h st e v x.iter w None u.iter ends) (omega arith) k
     by (no p) = counting_most h st a e v most n x.iter.from (omega arith) (omega arith) k
 counted h st a e v most n r (q ∷ xs) x u w m l k (t, (x', (g, c), y), z) =
-    let f = along_some h st e v x.iter w q x'.iter g in
     counted h st a e v most (n + 1) r xs x' u (along_next h st e v x.iter w (Some q) x'.iter g) (omega (arith, m, c)) (omega (arith, l))
-    (counting_next h st a e v n x.iter.from f.0 x'.iter.from f.3 k) (t, y, z)
+    (rw (g.behind q refl) (counting_next h st a e v n x.iter.from q (along_finds h st e v x.iter w (Some q) x'.iter g) k)) (t, y, z)
 
 -- ---- fitting
 
@@ -171,56 +158,35 @@ pub record Puts (l : List ℕ) (at at' : ℕ) (x x' : List ℕ) : Type 0 where
   pub others : (k : ℕ) → (k < at) ⊎ (at' ≤ k) → get_or x' k 0 ≡ get_or x k 0
   pub here : take at' x' ≡ take at x ++ l
 
-place_le : (s : Positions) (v : Bool) (a e : ℕ) → place_or e (first s v a e) ≤ e
-place_le s v a e = by (first s v a e) (first_means s v a e)
-  where
-    by : (f : Place) → Searched s v a e f → place_or e f ≤ e
-    by f (hit i m) = omega (arith, m.high)
-    by f (miss m) = omega arith
-
--- the run that is written next, both its ends in 32 bits
-written_next : (h : RangeBitset) (st : List ℕ) (e : ℕ) (v : Bool) (s : Positions) (from p q : ℕ) → range_refusal h (length st) e ≡ 0 → Represents h st s
-    → FindsRun h st from e v p q → changed_runs s from e v ≡ run (p % 4294967296) (q % 4294967296) ∷ changed_runs s q e v
-written_next h st e v s from p q z r x =
-    let b = range_accepted h st e z in
-    let t : e ≤ 262144 = omega (arith, b.0.most, b.1) in
-    let p_at : p ≡ place_or e (first s (not v) from e) = ap (place_or e) (sym (found_as _ p (x.start z s r))) in
-    let u : p % 4294967296 ≡ p = omega (arith, place_le s (not v) from e) in
-    let w : q % 4294967296 ≡ q = omega (arith, place_le s v p e, x.end z s r) in
-    rw (u, w) (run_found h st from e v z s r p q x)
-
--- the run that the two searches found is put behind the others, its ends in 32 bits, which hold every position
-pub writing_next : (code : Run → List ℕ) (h : RangeBitset) (st : List ℕ) (a e : ℕ) (v : Bool) (u : ℕ) (x₀ x x' : List ℕ) (i from p q at at' : ℕ)
-    → FindsRun h st from e v p q
-    → Puts (code (run (p % 4294967296) (q % 4294967296))) at at' x x' → Writing code h st a e v u x₀ x i at from
-    → Writing code h st a e v u x₀ x' (i + 1) at' q
-writing_next code h st a e v u x₀ x x' i from p q at at' k n w =
+-- the run that was found is put behind the others
+pub writing_next : (code : Run → List ℕ) (h : RangeBitset) (st : List ℕ) (a e : ℕ) (v : Bool) (u : ℕ) (x₀ x x' : List ℕ) (i from : ℕ) (q : Range ℕ) (at at' : ℕ)
+    → Finds h st from e v (Some q) → Puts (code (run q.start q.end)) at at' x x' → Writing code h st a e v u x₀ x i at from
+    → Writing code h st a e v u x₀ x' (i + 1) at' q.end
+writing_next code h st a e v u x₀ x x' i from q at at' k n w =
     record {
       low = omega (arith, n.low, w.low);
       same_length = n.same_length ∙ w.same_length;
       others = rest;
-      left = counting_next h st a e v i from p q k w.left;
-      so_far = λ z s r. joined s (written_next h st e v s from p q z r k) (w.so_far z s r);
+      left = counting_next h st a e v i from q k w.left;
+      so_far = λ z s r. joined s (run_found h st from e v z s r q k) (w.so_far z s r);
     }
   where
     rest : (c : ℕ) → (c < u) ⊎ (at' ≤ c) → get_or x' c 0 ≡ get_or x₀ c 0
     rest c (inl b) = n.others c (inl (omega (arith, w.low))) ∙ w.others c (inl b)
     rest c (inr b) = n.others c (inr b) ∙ w.others c (inr (omega (arith, n.low)))
 
-    joined : (s : Positions) → changed_runs s from e v ≡ run (p % 4294967296) (q % 4294967296) ∷ changed_runs s q e v
+    joined : (s : Positions) → changed_runs s from e v ≡ run q.start q.end ∷ changed_runs s q.end e v
         → take at x ++ encoded code (changed_runs s from e v) ≡ take u x₀ ++ encoded code (changed_runs s a e v)
-        → take at' x' ++ encoded code (changed_runs s q e v) ≡ take u x₀ ++ encoded code (changed_runs s a e v)
+        → take at' x' ++ encoded code (changed_runs s q.end e v) ≡ take u x₀ ++ encoded code (changed_runs s a e v)
     joined s c d =
-        rw (n.here, append_assoc (take at x) (code (run (p % 4294967296) (q % 4294967296))) (encoded code (changed_runs s q e v))) (rw c at d)
+        rw (n.here, append_assoc (take at x) (code (run q.start q.end)) (encoded code (changed_runs s q.end e v))) (rw c at d)
 
 -- a step of the iterator, whose run is put behind the others
 pub writing_one : (code : Run → List ℕ) (h : RangeBitset) (st : List ℕ) (a e : ℕ) (v : Bool) (u : ℕ) (l₀ l l' : List ℕ) (i at at' : ℕ) (x x' : Runs) (q : Range ℕ)
     → Along h st e v x → GivesRun x (Some q) x' → Puts (code (run q.start q.end)) at at' l l'
     → Writing code h st a e v u l₀ l i at x.from → Writing code h st a e v u l₀ l' (i + 1) at' x'.from
 writing_one code h st a e v u l₀ l l' i at at' x x' q w g n k =
-    let f = along_some h st e v x w q x' g in
-    writing_next code h st a e v u l₀ l l' i x.from f.0 x'.from at at' f.3
-    (subst (λ (r : Run). Puts (code r) at at' l l') (ap₂ run f.1 f.2) n) k
+    rw (g.behind q refl) (writing_next code h st a e v u l₀ l l' i x.from q at at' (along_finds h st e v x w (Some q) x' g) n k)
 
 -- the loop ends where no run is left, as far as all of them fit
 writing_ends : (code : Run → List ℕ) (h : RangeBitset) (st : List ℕ) (a e : ℕ) (v : Bool) (u most : ℕ) (x₀ x : List ℕ) (i at from : ℕ) → i ≤ most
@@ -251,5 +217,5 @@ writing_last code h st a e v u most left l₀ l i at x x' w g m k = by (dec_lt 0
   where
     by : Dec (0 < left) → WritesRuns code h st a e v most i u at l₀ l
     by (yes p) =
-        writing_ends code h st a e v u most l₀ l i at x.from (omega arith) (λ z s r t. ap length (none_left h st x.from e v z s r (along_none h st e v x w x' (g p)))) k
+        writing_ends code h st a e v u most l₀ l i at x.from (omega arith) (λ z s r t. ap length (none_left h st x.from e v z s r (along_finds h st e v x w None x' (g p)))) k
     by (no p) = writing_ends code h st a e v u most l₀ l i at x.from (omega arith) (λ z s r t. omega (arith, k.left z s r)) k

@@ -1,22 +1,20 @@
--- The walk over the runs that giving a..e the value v changes: a search, the run found by two, whether they are few enough, how many they are,
+-- The walk over the runs that giving a..e the value v changes: the run found by a search, whether they are few enough, how many they are,
 -- and what those above have written of them. At v = false these are the set's own runs. Assumes nothing.
 use Rattle.std.specs.Prelude.{◌≡◌, ◌⊎◌, Bool, true, List, ◌++◌, ℕ, ◌*◌, ◌-◌, ◌≤◌, ◌<◌, min, leb, length, get_or, take, not, Option, Some}
-use Rattle.positions.specs.Positions.{Positions, first}
-use Rattle.positions.specs.Replies.{of_place}
-use Rattle.positions.specs.Runs.{Run, place_or, changed_runs, encoded}
+use Rattle.std.specs.declared.ops.Range.{Range}
+use Rattle.positions.specs.Positions.{Positions}
+use Rattle.positions.specs.Replies.{of_run}
+use Rattle.positions.specs.Runs.{Run, next_run, changed_runs, encoded}
 use Rattle.range_bitset.specs.Represents.{Represents}
-use Rattle.answers.specs.Refusals.{of_position}
+use Rattle.answers.specs.Refusals.{of_range}
 use Rattle.range_bitset.specs.Answers.{range_refusal}
 use Rattle.range_bitset.specs.declared.RangeBitset.{RangeBitset}
 
--- for every set that the memory represents, within capacity: the first position of a..e of value v, or none
-abbrev pub Finds : RangeBitset → List ℕ → ℕ → ℕ → Bool → Option ℕ → Type 0
-Finds h st a e v r = range_refusal h (length st) e ≡ 0 → (s : Positions) → Represents h st s → of_position r ≡ of_place (first s v a e)
-
--- p..q is the first run of a..e that giving it the value v changes: the first position that lacks it, and up to the next that has it
-pub record FindsRun (h : RangeBitset) (st : List ℕ) (a e : ℕ) (v : Bool) (p q : ℕ) : Type 0 where
-  pub start : Finds h st a e (not v) (Some p)
-  pub end : range_refusal h (length st) e ≡ 0 → (s : Positions) → Represents h st s → q ≡ place_or e (first s v p e)
+-- the first run of a..e that giving it the value v changes, or none: on any memory a run in a..e, within the largest capacity; for every set
+-- that the memory represents, within capacity, the first
+pub record Finds (h : RangeBitset) (st : List ℕ) (a e : ℕ) (v : Bool) (r : Option (Range ℕ)) : Type 0 where
+  pub ahead : (q : Range ℕ) → r ≡ Some q → (a ≤ q.start) × (q.start < q.end) × (q.end ≤ e) × (e ≤ 262144)
+  pub first : range_refusal h (length st) e ≡ 0 → (s : Positions) → Represents h st s → of_range r ≡ of_run (next_run s (not v) a e)
 
 -- how many runs of a..e giving it the value v changes, counted up to `most`
 pub record CountsRuns (h : RangeBitset) (st : List ℕ) (a e : ℕ) (v : Bool) (most r : ℕ) : Type 0 where

@@ -1,17 +1,16 @@
-// The runs of a set: an iterator that finds each by two searches, and whether they are few enough. A run is a longest stretch of
+// The runs of a set: an iterator that finds each by a search, and whether they are few enough. A run is a longest stretch of
 // positions that giving a range a value would change; at the value false these are the set's own runs. What the iterator finds is
 // written by those above: the ledger into its journal, list_writer into a saved list.
 // Assumes nothing of its callers: no entry has a `requires`.
 #![tactic(auto)]
 
-ghost use Rattle.std.specs.Prelude.{◌≡◌, ◌%◌, ◌^◌};
 ghost use Rattle.set_runs.specs.Walks.{Finds, RunsFit, CountsRuns};
 
 use range_bitset::RangeBitset;
 use std::ops::Range;
 
-// The runs that giving `from..end` the value changes, from the first on, in 32 bits, which hold every position. On memory that is no
-// set's they may never end.
+// The runs that giving `from..end` the value changes, from the first on, in 32 bits, which hold every position. On any memory each lies
+// behind the one before, within the range, so that they end.
 #[derive(Clone, Copy, Debug)]
 pub struct Runs<'a> {
     pub set: RangeBitset,
@@ -22,36 +21,32 @@ pub struct Runs<'a> {
 }
 
 impl Iterator for Runs<'_> {
+    ghost use Rattle.std.specs.Prelude.{◌-◌};
+    ghost use Rattle.std.specs.Iterator.{at_most};
     ghost use Rattle.set_runs.specs.Runs.{GivesRun};
 
     type Item = Range<u32>;
 
     ghost next_gives = { GivesRun };
 
+    ghost remaining = { λ runs. at_most (runs.end - runs.from) };
+
     fn next(&mut self) -> Option<Range<u32>> {
-        let start = self.first_of(self.from, !self.value)?;
-        let end = self.first_of(start, self.value).unwrap_or(self.end);
-        self.from = end;
-        Some(low32(start)..low32(end))
+        let run = self.first()?;
+        self.from = run.end;
+        Some(run.start as u32..run.end as u32)
     }
 }
 
-// The low 32 bits. An `as` has to keep the number, so they are taken first.
-fn low32(position: usize) -> u32
-    ensures { result ≡ position % 2 ^ 32 }
-{
-    (position % 0x1_0000_0000) as u32
-}
-
 impl Runs<'_> {
-    // First position in `from..end` equal to `value`.
-    pub fn first_of(&self, from: usize, value: bool) -> Option<usize>
-        ensures { Finds self.now.set self.now.storage.now from self.now.end value result }
+    // The first of them.
+    fn first(&self) -> Option<Range<usize>>
+        ensures { Finds self.now.set self.now.storage.now self.now.from self.now.end self.now.value result }
     {
-        let found = if value {
-            self.set.next_one(self.storage, from, self.end)
+        let found = if self.value {
+            self.set.next_zero(self.storage, self.from, self.end)
         } else {
-            self.set.next_zero(self.storage, from, self.end)
+            self.set.next_one(self.storage, self.from, self.end)
         };
         found.unwrap_or(None)
     }

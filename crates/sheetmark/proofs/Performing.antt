@@ -1,12 +1,11 @@
--- Laws of performing a command: each arm's promise from the call that it makes; a found position cut to 32 bits is the
--- position. Assumes nothing.
-use Rattle.sheetmark.proofs.Kit.{◌≡◌, refl, sym, ap, ◌∙◌, subst, Bool, true, Some, is_some, List, ℕ, ◌*◌, ◌≤◌, arith, length}
-use Rattle.positions.specs.Positions.{Positions, Place, first}
-use Rattle.positions.proofs.Searches.{Searched, hit, miss, first_means}
-use Rattle.positions.specs.Replies.{Reply, number, of_place}
+-- Laws of performing a command: each arm's promise from the call that it makes; a found start cut to 32 bits is the start.
+-- Assumes nothing.
+use Rattle.sheetmark.proofs.Kit.{◌≡◌, refl, sym, ap, ◌∙◌, subst, Bool, true, Some, is_some, List, ℕ, ◌^◌, ◌<◌, arith, length}
+use Rattle.std.proofs.Common.{None, Ok, Err}
+use Rattle.positions.specs.Runs.{next_run}
+use Rattle.positions.specs.Replies.{of_run}
 use Rattle.range_bitset.specs.Answers.{Found, of_found, range_refusal}
-use Rattle.range_bitset.specs.Entries.{NextEnsures}
-use Rattle.range_bitset.proofs.AcceptedHeads.{range_accepted}
+use Rattle.range_bitset.specs.Entries.{Lies, NextEnsures}
 use Rattle.ledger.specs.Machine.{Call}
 use Rattle.ledger.specs.Memory.{Memory, memory}
 use Rattle.ledger.specs.Entries.{Called as Done, of_called, CalledEnsures}
@@ -14,8 +13,9 @@ use Rattle.ledger.specs.declared.Ledger.{Ledger}
 use Rattle.answers.specs.Refusals.{head_after}
 use Rattle.command_lines.specs.declared.Command.{Command}
 use Rattle.command_lines.specs.declared.Answer.{Answer}
+use Rattle.command_lines.specs.declared.Answer.TheVariants as answer
 use Rattle.sheetmark.specs.declared.Performed.{Performed}
-use Rattle.sheetmark.specs.Performing.{Calls, Seeks, Performs, memory_of}
+use Rattle.sheetmark.specs.Performing.{Calls, Asks, Performs, memory_of}
 use Rattle.command_lines.specs.Answers.{answer_of, low32}
 
 -- ---- the arm of a known command
@@ -33,22 +33,13 @@ by_call c h st j st' j' d r t e = rw t.1 (record { same_live = refl; reply = of_
 
 -- ---- the queries
 
--- below an end of at most 2^18 the 32 low bits are the position
-low_same : (s : Positions) (v : Bool) (a e : ℕ) → e ≤ 64 * 4096 → (f : Place) → Searched s v a e f → low32 (of_place f) ≡ of_place f
-low_same s v a e n f (hit j m) = ap number (omega (arith, m.high))
-low_same s v a e n f (miss m) = refl
+-- a run that is found in a range that ends below 2^32 starts there too, so that its 32 low bits are the number itself
+low_same : (a e : ℕ) → e < 2 ^ 32 → (r : Found) → Lies a e r → answer_of (low32 (of_found r)) ≡ answer_of (of_found r)
+low_same a e n (Ok (Some q)) l = ap answer.Number (omega (arith, l.1, l.2))
+low_same a e n (Ok None) l = refl
+low_same a e n (Err k) l = refl
 
-pub by_search : (x : Memory) (a e : ℕ) (v : Bool) (p : Found) (r : Answer) → NextEnsures v x.head.set x.storage a e p → r ≡ answer_of (low32 (of_found p))
-    → Seeks (range_refusal x.head.set (length x.storage) e) x (λ s. of_place (first s v a e)) r true x
-by_search x a e v p r q t =
-    record {
-      same_live = refl;
-      same = refl;
-      reply = of_found p;
-      answers = q;
-      told = t;
-      whole = λ z s y.
-          let room = range_accepted x.head.set x.storage e z in
-          t ∙ ap (λ (b : Reply). answer_of (low32 b)) (q.answers z s y)
-          ∙ ap answer_of (low_same s v a e (omega (arith, room.1, room.0.most)) (first s v a e) (first_means s v a e));
-    }
+pub by_search : (x : Memory) (a e : ℕ) (v : Bool) (p : Found) (r : Answer) → e < 2 ^ 32 → NextEnsures v x.head.set x.storage a e p → r ≡ answer_of (low32 (of_found p))
+    → Asks (range_refusal x.head.set (length x.storage) e) x (λ s. of_run (next_run s v a e)) r true x
+by_search x a e v p r n q t =
+    record { same_live = refl; same = refl; reply = of_found p; answers = q.query; told = t ∙ low_same a e n p q.lies }

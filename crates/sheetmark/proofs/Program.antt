@@ -1,9 +1,10 @@
 -- A run of the program is the plain program's: one command, lines, the parts of an input. Assumes nothing.
 use Rattle.sheetmark.proofs.Kit.{◌≡◌, refl, sym, ap, ◌∙◌, subst, ap₂, Bool, true, false, ◌&&◌, cond, Option, Some, None, Ok, Err, List, [], ◌∷◌, ◌++◌, append_assoc, append-nil, ℕ, ◌+◌, ◌-◌, ◌/◌, ◌%◌, ◌^◌, ◌≤◌, ◌<◌, arith, eqb, leb, length, length-append, le-leb, leb-true}
-use Rattle.positions.specs.Positions.{Positions, count, first}
+use Rattle.positions.specs.Positions.{Positions, Place, found_at, not_found, count, first}
+use Rattle.positions.specs.Runs.{run_at, run_end, next_run}
 use Rattle.positions.proofs.Bools.{and_left, and_right}
 use Rattle.range_bitset.specs.Layout.{allowed, needed}
-use Rattle.positions.specs.Replies.{Reply, numbers, refused_with, number, refusal, refused, of_place}
+use Rattle.positions.specs.Replies.{Reply, numbers, refused_with, number, refusal, refused, of_place, of_run}
 use Rattle.range_bitset.specs.Answers.{allowed_capacity, range_refusal}
 use Rattle.ledger.specs.Machine.{Machine, fresh, set_of, Call, range, back, wipe}
 use Rattle.ledger.specs.Memory.{Memory, memory, lent_enough, Holds}
@@ -19,8 +20,8 @@ use Rattle.command_lines.specs.declared.Answer.TheVariants as answer
 use Rattle.command_lines.specs.Lines.{meaning}
 use Rattle.command_lines.specs.Input.{lines, lines_from, unended}
 use Rattle.command_lines.proofs.Buffers.{holds_none}
-use Rattle.sheetmark.specs.Performing.{IsBad, Starts, Calls, Asks, Seeks, Performs}
-use Rattle.command_lines.specs.Answers.{answer_of, low32}
+use Rattle.sheetmark.specs.Performing.{IsBad, Starts, Calls, Asks, Performs}
+use Rattle.command_lines.specs.Answers.{answer_of}
 use Rattle.sheetmark.specs.Answering.{State, AnswersLine, Serves, none, line, texts, Kept, ReadAnswered}
 use Rattle.sheetmark.specs.Program.{Present, no_ledger, with_machine, Response, started, called, asked, respond, responses, present_after, Follows, Lent, Reading, part, Run, end, joined, output_for, Answered, RunsAsPlain, AnswersAtOnce, Served, ended, too_long}
 use Rattle.sheetmark.specs.Program as program
@@ -61,9 +62,20 @@ started_as p capacity j live live' x y a f e q = go (allowed_capacity capacity &
         (r.0, (r.1, subst (λ (z : Memory). Holds z (fresh capacity j)) (sym r.2) (holds_fresh capacity j x.storage x.journal d l)))
 
 -- the calls and questions of the present ledger
-refusal_printed : (r : Reply) → refused r ≡ 4 → (answer_of r ≡ answer.Refused 4) × (answer_of (low32 r) ≡ answer.Refused 4)
+refusal_printed : (r : Reply) → refused r ≡ 4 → answer_of r ≡ answer.Refused 4
 refusal_printed (numbers ns) e = absurd (omega (arith, e))
-refusal_printed (refused_with k vs) e = (ap answer.Refused e, ap answer.Refused e)
+refusal_printed (refused_with k vs) e = ap answer.Refused e
+
+-- of a run the start is printed, which is the first position
+start_printed : (b : Bool) (s : Positions) (v : Bool) (t e : ℕ)
+    → answer_of (cond b (of_run (next_run s v t e)) (refusal 4)) ≡ answer_of (cond b (of_place (first s v t e)) (refusal 4))
+unfolding next_run
+start_printed false s v t e = refl
+start_printed true s v t e = by (first s v t e)
+  where
+    by : (f : Place) → answer_of (of_run (run_at (λ p. run_end s v p e) f)) ≡ answer_of (of_place f)
+    by (found_at p) = refl
+    by not_found = refl
 
 module _ (m : Machine) (x y : Memory) (a : Answer) (live' : Bool) (h : Holds x m) where
   calls_as : (c : Call) → Calls c x a live' y → Comes (called c m) a live' y
@@ -79,14 +91,13 @@ module _ (m : Machine) (x y : Memory) (a : Answer) (live' : Bool) (h : Holds x m
       where
         go : (b : Bool) → range_refusal x.head.set (length x.storage) e ≡ cond b 0 4 → a ≡ answer_of (cond b (f (set_of m)) (refusal 4))
         go true z = k.told ∙ ap answer_of (k.answers.answers z (set_of m) h.set)
-        go false z = k.told ∙ (refusal_printed k.reply (k.answers.refuses ∙ z)).0
+        go false z = k.told ∙ refusal_printed k.reply (k.answers.refuses ∙ z)
 
-    seeks_as : Seeks (range_refusal x.head.set (length x.storage) e) x f a live' y → Comes (asked e (f (set_of m)) m) a live' y
-    seeks_as k = (go (leb e m.capacity) (range_as e), (k.same_live, subst (λ (z : Memory). Holds z m) (sym k.same) h))
-      where
-        go : (b : Bool) → range_refusal x.head.set (length x.storage) e ≡ cond b 0 4 → a ≡ answer_of (cond b (f (set_of m)) (refusal 4))
-        go true z = k.whole z (set_of m) h.set
-        go false z = k.told ∙ (refusal_printed k.reply (k.answers.refuses ∙ z)).1
+  searches_as : (v : Bool) (t e : ℕ) → Asks (range_refusal x.head.set (length x.storage) e) x (λ s. of_run (next_run s v t e)) a live' y
+      → Comes (asked e (of_place (first (set_of m) v t e)) m) a live' y
+  searches_as v t e k =
+      let c = asks_as e (λ s. of_run (next_run s v t e)) k in
+      (c.0 ∙ start_printed (leb e m.capacity) (set_of m) v t e, c.1)
 
 module _ (live live' : Bool) (x y : Memory) (a : Answer) where
   before : IsBad false x a live' y → Comes (record { answer = answer.BadLine; next = no_ledger }) a live' y
@@ -107,10 +118,10 @@ module _ (live live' : Bool) (x y : Memory) (a : Answer) where
       asks_as m x y a live' f.1 t (λ (o : Positions). number (count o s t)) (known (Some (command.Count s t)) true f.0 q)
   performs_follows (Some (command.One s t)) no_ledger f e q = before (known (Some (command.One s t)) false f q)
   performs_follows (Some (command.One s t)) (with_machine m) f e q =
-      seeks_as m x y a live' f.1 t (λ (o : Positions). of_place (first o true s t)) (known (Some (command.One s t)) true f.0 q)
+      searches_as m x y a live' f.1 true s t (known (Some (command.One s t)) true f.0 q)
   performs_follows (Some (command.Zero s t)) no_ledger f e q = before (known (Some (command.Zero s t)) false f q)
   performs_follows (Some (command.Zero s t)) (with_machine m) f e q =
-      seeks_as m x y a live' f.1 t (λ (o : Positions). of_place (first o false s t)) (known (Some (command.Zero s t)) true f.0 q)
+      searches_as m x y a live' f.1 false s t (known (Some (command.Zero s t)) true f.0 q)
   performs_follows (Some command.Back) no_ledger f e q = before (known (Some command.Back) false f q)
   performs_follows (Some command.Back) (with_machine m) f e q = calls_as m x y a live' f.1 back (known (Some command.Back) true f.0 q)
   performs_follows (Some command.Wipe) no_ledger f e q = before (known (Some command.Wipe) false f q)

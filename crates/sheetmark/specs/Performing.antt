@@ -1,9 +1,9 @@
 -- What performing a command promises: there is a reply of which the ledger's or the set's own promise holds, and its answer is
 -- printed. Assumes nothing.
 use Rattle.std.specs.Prelude.{◌≡◌, Bool, true, false, Option, Some, None, is_some, Result, Ok, Err, List, ℕ, length}
-use Rattle.positions.specs.Positions.{Positions, count, first}
-use Rattle.range_bitset.specs.Represents.{Represents}
-use Rattle.positions.specs.Replies.{Reply, number, of_place}
+use Rattle.positions.specs.Positions.{Positions, count}
+use Rattle.positions.specs.Runs.{next_run}
+use Rattle.positions.specs.Replies.{Reply, number, of_run}
 use Rattle.range_bitset.specs.Answers.{range_refusal}
 use Rattle.range_bitset.specs.Entries.{Answers}
 use Rattle.ledger.specs.Machine.{Call, range, back, wipe}
@@ -12,7 +12,7 @@ use Rattle.ledger.specs.Entries.{CallEnsures, new_of}
 use Rattle.ledger.specs.declared.Ledger.{Ledger}
 use Rattle.answers.specs.Refusals.{number_of}
 use Rattle.answers.specs.declared.Refusal.{Refusal}
-use Rattle.command_lines.specs.Answers.{answer_of, low32}
+use Rattle.command_lines.specs.Answers.{answer_of}
 use Rattle.command_lines.specs.declared.Command.{Command}
 use Rattle.command_lines.specs.declared.Command.TheVariants as command
 use Rattle.command_lines.specs.declared.Answer.{Answer}
@@ -37,22 +37,13 @@ pub record Calls (c : Call) (x : Memory) (a : Answer) (live' : Bool) (y : Memory
   pub called : CallEnsures c x reply y
   pub told : a ≡ answer_of reply
 
--- a query of the present ledger's set: f is the reply on the plain set
+-- a query of the present ledger's set: f is the reply on the plain set. What is printed is its first number, of a run the start
 pub record Asks (k : ℕ) (x : Memory) (f : Positions → Reply) (a : Answer) (live' : Bool) (y : Memory) : Type 0 where
   pub same_live : live' ≡ true
   pub same : y ≡ x
   pub reply : Reply
   pub answers : Answers k x.head.set x.storage f reply
   pub told : a ≡ answer_of reply
-
--- a search: on any memory the position's 32 low bits, which are the position on every set that the memory represents
-pub record Seeks (k : ℕ) (x : Memory) (f : Positions → Reply) (a : Answer) (live' : Bool) (y : Memory) : Type 0 where
-  pub same_live : live' ≡ true
-  pub same : y ≡ x
-  pub reply : Reply
-  pub answers : Answers k x.head.set x.storage f reply
-  pub told : a ≡ answer_of (low32 reply)
-  pub whole : k ≡ 0 → (s : Positions) → Represents x.head.set x.storage s → a ≡ answer_of (f s)
 
 -- before an accepted `new`, every other command is a bad line, as is a line that is no command
 abbrev pub Performs : Option Command → Bool → Memory → Answer → Bool → Memory → Type 0
@@ -62,9 +53,9 @@ Performs (Some (command.Clear s e)) true x a live' y = Calls (range s e false) x
 Performs (Some (command.Count s e)) true x a live' y =
     Asks (range_refusal x.head.set (length x.storage) e) x (λ p. number (count p s e)) a live' y
 Performs (Some (command.One s e)) true x a live' y =
-    Seeks (range_refusal x.head.set (length x.storage) e) x (λ p. of_place (first p true s e)) a live' y
+    Asks (range_refusal x.head.set (length x.storage) e) x (λ p. of_run (next_run p true s e)) a live' y
 Performs (Some (command.Zero s e)) true x a live' y =
-    Seeks (range_refusal x.head.set (length x.storage) e) x (λ p. of_place (first p false s e)) a live' y
+    Asks (range_refusal x.head.set (length x.storage) e) x (λ p. of_run (next_run p false s e)) a live' y
 Performs (Some command.Back) true x a live' y = Calls back x a live' y
 Performs (Some command.Wipe) true x a live' y = Calls wipe x a live' y
 Performs (Some (command.Mark s e)) false x a live' y = IsBad false x a live' y

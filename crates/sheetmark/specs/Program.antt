@@ -34,7 +34,8 @@ started p capacity j =
     cond (allowed_capacity capacity && leb j 16384) (record { answer = answer.Number 0; next = with_machine (fresh capacity j) })
     (record { answer = answer.Refused 1; next = p })
 
--- a call of the machine; a question about its set, refused 4 where the end is above the capacity
+-- a call of the machine; a question about its set, refused 4 where the end is above the capacity. Of the run that a search finds the start
+-- alone is printed, so it asks for the first position
 abbrev pub called : Call → Machine → Response
 called c m = record { answer = answer_of (step m c).answer; next = with_machine (step m c).next }
 

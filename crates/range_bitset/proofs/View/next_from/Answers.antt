@@ -2,4 +2,4 @@
 use Rattle.range_bitset.proofs.View.next_from.Goals as goal
 
 pub returns : goal.returns
-returns g c = c.next_after.ensures (c.bits_from-bits.ensures.none c.if-bits-ne0.false)
+returns c = c.end_after.ensures (c.bits_from-bits.ensures.none c.if-bits-ne0.false)
