@@ -229,7 +229,7 @@ pub runs_skip : (d : Positions) (a e : ℕ) → a < e → d a ≡ false → runs
 unfolding runs runs_from
 runs_skip d a e h x = let p : e - a ≡ suc (e - suc a) = omega arith in rw (p, x)
 
--- one run found, and the runs after it: what a loop over two searches adds at each turn
+-- one run found, and the runs after it: what a loop over searches adds at each turn
 pub runs_next : (d : Positions) (a p q e : ℕ) → a ≤ p → p < q → q ≤ e
     → ((i : ℕ) → a ≤ i → i < p → d i ≡ false) → ((i : ℕ) → p ≤ i → i < q → d i ≡ true) → (q < e → d q ≡ false)
     → runs d a e ≡ run p q ∷ runs d q e
