@@ -1,7 +1,7 @@
 -- Laws of gathering a line: the bytes up to a newline and those behind it, by where the newline is. Assumes nothing.
-use Rattle.command_lines.proofs.Kit.{◌≡◌, refl, sym, ap, ◌∙◌, Bool, true, false, not, cond, Some, None, List, [], ◌∷◌, ℕ, ◌+◌, ◌≤◌, ◌<◌, arith, one-add, length, take, drop, take_all, eqb, ltb, ltb-true, position, position_or_len, prefix_len, cond_some}
+use Rattle.command_lines.proofs.Kit.{◌≡◌, refl, sym, ap, ◌∙◌, Bool, true, false, not, cond, Some, None, List, [], ◌∷◌, ℕ, ◌+◌, ◌≤◌, ◌<◌, arith, one-add, length, take, drop, drop_of_length-le, take_all, eqb, ltb, ltb-true, position, position_or_len, prefix_len, cond_some}
 use Rattle.command_lines.specs.Inner.{SplitsAt}
-use Rattle.command_lines.specs.Input.{up_to, ends, Splits, Gathers}
+use Rattle.command_lines.specs.Input.{up_to, ends, Gathers, Splits, Pushes}
 
 abbrev newline : ℕ → Bool
 newline b = eqb b 10
@@ -40,16 +40,24 @@ module _ {t : List ℕ} where
       let u : up_to t ≡ a = l.upto ∙ sym s.before in
       record { before = sym u; behind = simp (l.ended (ltb-true _ _ n), u) (ap Some (s.behind ∙ ap (λ (k : ℕ). drop (k + 1) t) e)) }
 
+-- ---- behind the text there is nothing to gather
+
+pub gathers_nothing : (text : List ℕ) (from : ℕ) (line : List ℕ) (kept : ℕ) → length text ≤ from → Gathers text from line kept (record { at = from; kept = kept; ended = false }) line
+unfolding up_to ends
+gathers_nothing text from line kept h =
+    let d : drop from text ≡ [] = drop_of_length-le text h in
+    record { line_after = rw d; kept_is = rw d (omega arith); ended = rw d; next = rw d (omega arith) }
+
 -- ---- what an answer says: the line has ended, and what follows its newline; or it has not
 
-pub gathers_ended : {size : ℕ} {t line after rest : List ℕ} → Gathers size t line after (Some rest) → (ends t ≡ true) × (rest ≡ drop (length (up_to t) + 1) t)
-gathers_ended {t = t} {rest = rest} g = go (ends t) g.next where
+pub pushes_ended : {size : ℕ} {t line after rest : List ℕ} → Pushes size t line after (Some rest) → (ends t ≡ true) × (rest ≡ drop (length (up_to t) + 1) t)
+pushes_ended {t = t} {rest = rest} g = go (ends t) g.next where
   go : (s : Bool) → Some rest ≡ cond s (Some (drop (length (up_to t) + 1) t)) None → (s ≡ true) × (rest ≡ drop (length (up_to t) + 1) t)
   go true n = (refl, cc)
   go false n = cc
 
-pub gathers_open : {size : ℕ} {t line after : List ℕ} → Gathers size t line after None → ends t ≡ false
-gathers_open {t = t} g = go (ends t) g.next where
+pub pushes_open : {size : ℕ} {t line after : List ℕ} → Pushes size t line after None → ends t ≡ false
+pushes_open {t = t} g = go (ends t) g.next where
   go : (s : Bool) → None ≡ cond s (Some (drop (length (up_to t) + 1) t)) None → s ≡ false
   go true n = cc
   go false n = refl

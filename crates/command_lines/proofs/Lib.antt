@@ -2,6 +2,7 @@
 mod Kit
 pub mod Fields
 pub mod Decimals
+pub mod Filling
 pub mod Gathering
 pub mod Buffers
 mod Examples

@@ -1,5 +1,6 @@
 -- What `sheetmark` prints for a reply and for an answer, and where it stands in the output. Assumes nothing.
 use Rattle.std.specs.Prelude.{Bool, cond, List, [], ◌∷◌, ◌++◌, map, ℕ, zero, suc, ◌+◌, ◌/◌, ◌%◌, ◌^◌, length, leb, ltb, codes}
+use Rattle.std.proofs.lemmas.List.Edits.{sets}
 use Rattle.positions.specs.Replies.{Reply, numbers, refused_with}
 use Rattle.command_lines.specs.declared.Answer.{Answer}
 use Rattle.command_lines.specs.declared.Answer.TheVariants.{Number, Nothing, Refused, BadLine}
@@ -37,10 +38,27 @@ text BadLine = codes "bad line"
 abbrev pub printed : Answer → List ℕ
 printed a = text a ++ (10 ∷ [])
 
--- an output for `size` bytes that holds `held` has room for any answer's line: `refused 255` and a newline are the longest, 12 bytes
-abbrev pub has_room : ℕ → List ℕ → Bool
-has_room size held = leb (length held + 12) size
+-- ---- put into the output
+
+-- the output `out`, filled up to `used`, has room for any answer's line: `refused 255` and a newline are the longest, 12 bytes
+abbrev pub has_room : List ℕ → ℕ → Bool
+has_room out used = leb (used + 12) (length out)
+
+-- the output, filled up to `used`, once the answer is put there: `sets l i bs` is l with the bytes bs stored from index i on.
+-- Where there is no room, nothing is stored
+abbrev pub out_after : List ℕ → ℕ → Answer → List ℕ
+out_after out used a = cond (has_room out used) (sets out used (printed a)) out
+
+-- up to where the output is filled then
+abbrev pub used_after : List ℕ → ℕ → Answer → ℕ
+used_after out used a = cond (has_room out used) (used + length (printed a)) used
+
+-- ---- the same where the output is an `ArrayVec` for `size` bytes that holds `held`
+
+-- it has room for any answer's line
+abbrev pub is_free : ℕ → List ℕ → Bool
+is_free size held = leb (length held + 12) size
 
 -- what it holds once the answer is put there. Where there is no room, nothing is put
-abbrev pub out_after : ℕ → List ℕ → Answer → List ℕ
-out_after size held a = cond (has_room size held) (held ++ printed a) held
+abbrev pub pushed : ℕ → List ℕ → Answer → List ℕ
+pushed size held a = cond (is_free size held) (held ++ printed a) held

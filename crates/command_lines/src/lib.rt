@@ -4,13 +4,14 @@
 #![tactic(auto)]
 
 ghost use Rattle.std.specs.Prelude.{◌≡◌, ◌++◌, ◌+◌, ◌≤◌, ◌<◌, cond, length, take, position, MatchOption, option_copied, ◌==◌};
+ghost use Rattle.std.proofs.lemmas.List.Edits.{sets};
 ghost use Rattle.positions.specs.Positions.{one};
 ghost use Rattle.positions.specs.Replies.{number};
-ghost use Rattle.answers.specs.Refusals.{of_result, of_range};
+ghost use Rattle.answers.specs.Refusals.{of_result, of_position, of_range};
 ghost use Rattle.command_lines.specs.Lines.{fields, is_number, value, pair, alone, with, meaning};
 ghost use Rattle.command_lines.specs.Inner.{SplitsAt};
-ghost use Rattle.command_lines.specs.Answers.{answer_of, low32, text, printed, out_after};
-ghost use Rattle.command_lines.specs.Input.{Splits, Gathers};
+ghost use Rattle.command_lines.specs.Answers.{answer_of, low32, text, printed, out_after, used_after, pushed};
+ghost use Rattle.command_lines.specs.Input.{Splits, Gathers, kept_after, Pushes};
 
 use answers::Refusal;
 use arrayvec::ArrayVec;
@@ -69,6 +70,19 @@ impl From<Result<Option<Range<usize>>, Refusal>> for Answer {
             Ok(Some(run)) => Answer::Number((run.start % 0x1_0000_0000) as u32),
             Ok(None) => Answer::Nothing,
             Err(refusal) => Answer::Refused(refusal.into()),
+        }
+    }
+}
+
+// A place, cut in the same way.
+impl From<Result<Option<usize>, Refusal>> for Answer {
+    ghost from_gives = { λ placed printed. printed ≡ answer_of (low32 (of_result of_position placed)) };
+
+    fn from(placed: Result<Option<usize>, Refusal>) -> Answer {
+        match placed {
+            Ok(Some(at)) => Answer::Number((at % 0x1_0000_0000) as u32),
+            Err(refusal) => Answer::Refused(refusal.into()),
+            _ => Answer::Nothing,
         }
     }
 }
@@ -183,8 +197,8 @@ fn put_text<const N: usize>(out: &mut ArrayVec<u8, N>, answer: Answer)
 
 // Puts an answer's line behind what the output holds. The longest line is `refused 255` and a newline, 12 bytes. Where fewer are
 // free, nothing is put.
-pub fn put_answer<const N: usize>(out: &mut ArrayVec<u8, N>, answer: Answer)
-    ensures stored { out.new.items ≡ out_after N out.old.items answer }
+pub fn push_answer<const N: usize>(out: &mut ArrayVec<u8, N>, answer: Answer)
+    ensures stored { out.new.items ≡ pushed N out.old.items answer }
     ensures bounded { length out.new.items ≤ length out.old.items + 12 }
 {
     if out.remaining_capacity() < 12 {
@@ -194,13 +208,36 @@ pub fn put_answer<const N: usize>(out: &mut ArrayVec<u8, N>, answer: Answer)
     put(out, b"\n");
 }
 
-// An answer's line by itself, for a buffer of any other kind.
+// An answer's line by itself, for a buffer of any kind.
 pub fn answer_line(answer: Answer) -> ArrayVec<u8, 12>
     ensures { result.items ≡ printed answer }
 {
     let mut line = ArrayVec::new();
-    put_answer(&mut line, answer);
+    push_answer(&mut line, answer);
     line
+}
+
+// Stores bytes at a place.
+fn store(out: &mut [u8], at: usize, bytes: &[u8])
+    requires { at + length bytes.now ≤ length out.old }
+    ensures { out.new ≡ sets out.old at bytes.now }
+{
+    out[at..at + bytes.len()].copy_from_slice(bytes);
+}
+
+// Puts an answer's line into the output, which is filled up to `used`, and answers up to where it is filled then. The longest
+// line is `refused 255` and a newline, 12 bytes. Where fewer are free, nothing is put.
+pub fn put_answer(out: &mut [u8], used: usize, answer: Answer) -> usize
+    ensures filled { result ≡ used_after out.old used answer }
+    ensures stored { out.new ≡ out_after out.old used answer }
+    ensures bounded { result ≤ used + 12 }
+{
+    if out.len() < 12 || used > out.len() - 12 {
+        return used;
+    }
+    let line = answer_line(answer);
+    store(out, used, line.as_slice());
+    used + line.len()
 }
 
 // ---- lines from input in parts
@@ -215,10 +252,10 @@ pub fn split_line(text: &[u8]) -> (&[u8], Option<&[u8]>)
     }
 }
 
-// Moves the bytes of the input into the line buffer, up to a newline or the input's end; those that the buffer has no room for
-// are lost. Answers what follows the newline, or None where the line has not ended. Into a buffer of any other kind goes what `split_line` gives.
-pub fn gather<'a, const N: usize>(text: &'a [u8], line: &mut ArrayVec<u8, N>) -> Option<&'a [u8]>
-    ensures { Gathers N text.now line.old.items line.new.items (option_copied result) }
+// Moves the bytes of the input into the line, up to a newline or the input's end; those that the line has no room for are lost.
+// Answers what follows the newline, or None where the line has not ended.
+pub fn push_line<'a, const N: usize>(text: &'a [u8], line: &mut ArrayVec<u8, N>) -> Option<&'a [u8]>
+    ensures { Pushes N text.now line.old.items line.new.items (option_copied result) }
 {
     let (part, rest) = split_line(text);
     keep(line, part);
@@ -231,4 +268,45 @@ fn keep<const N: usize>(line: &mut ArrayVec<u8, N>, part: &[u8])
 {
     let room = part.len().min(line.remaining_capacity());
     let _ = line.try_extend_from_slice(&part[..room]);
+}
+
+// Where gathering stopped: the next byte of the input, how far the buffer is filled, and whether the line has ended.
+#[derive(Clone, Copy, Debug, PartialEq, Eq)]
+pub struct Gathered {
+    pub at: usize,
+    pub kept: usize,
+    pub ended: bool,
+}
+
+// Moves the bytes of the input from `from` on into the line buffer, which is filled up to `kept`, up to a newline or the input's
+// end; those that do not fit are lost.
+pub fn gather(text: &[u8], from: usize, line: &mut [u8], kept: usize) -> Gathered
+    ensures { Gathers text.now from line.old kept result line.new }
+{
+    let Some(left) = text.get(from..) else {
+        return Gathered {
+            at: from,
+            kept,
+            ended: false,
+        };
+    };
+    let (part, rest) = split_line(left);
+    Gathered {
+        at: from + part.len() + usize::from(rest.is_some()),
+        kept: store_kept(line, kept, part),
+        ended: rest.is_some(),
+    }
+}
+
+// Stores the bytes behind the first `kept`, as many as the buffer reaches for, and answers how many are kept then.
+fn store_kept(line: &mut [u8], kept: usize, part: &[u8]) -> usize
+    ensures kept { result ≡ kept_after (length line.old) kept part.now }
+    ensures stored { line.new ≡ sets line.old kept part.now }
+{
+    if kept >= line.len() {
+        return kept;
+    }
+    let room = (line.len() - kept).min(part.len());
+    store(line, kept, &part[..room]);
+    kept + room
 }

@@ -3,9 +3,9 @@ use Rattle.sheetmark.proofs.Kit.{◌≡◌, refl, sym, ap, ◌∙◌, Some, None
 use Rattle.command_lines.specs.declared.Answer.{Answer}
 use Rattle.command_lines.specs.Lines.{meaning}
 use Rattle.command_lines.specs.Answers.{printed}
-use Rattle.command_lines.specs.Input.{lines_from, up_to, Gathers}
-use Rattle.command_lines.proofs.Buffers.{holds_none, gathers_holds, held_means, lines_ended, lines_open}
-use Rattle.command_lines.proofs.Gathering.{gathers_ended, gathers_open}
+use Rattle.command_lines.specs.Input.{lines_from, up_to, Pushes}
+use Rattle.command_lines.proofs.Buffers.{pushes_none, pushes_holds, pushed_means, lines_ended, lines_open}
+use Rattle.command_lines.proofs.Gathering.{pushes_ended, pushes_open}
 use Rattle.sheetmark.specs.Answering.{State, AnswersLine, Serves, none, line, texts, End, Kept, PartAnswered}
 use Rattle.sheetmark.specs.Inner.{LineAnswered}
 
@@ -45,10 +45,10 @@ so_far_none {l = l} e h =
 
 module _ {text l left : List ℕ} {s t : State} {out held after : List ℕ} (f : SoFar text l left s t out held) where
   -- a line ended, and is answered
-  pub so_far_line : {next : List ℕ} {u : State} {out' : List ℕ} → Gathers 32 left held after (Some next) → LineAnswered after t u out out'
+  pub so_far_line : {next : List ℕ} {u : State} {out' : List ℕ} → Pushes 32 left held after (Some next) → LineAnswered after t u out out'
       → SoFar text l next s u out' []
   so_far_line {next} {u} g a =
-      let (e, n) = gathers_ended g in
+      let (e, n) = pushes_ended g in
       let whole : List ℕ = f.rest ++ up_to left in
       record {
         finished = f.finished ++ (whole ∷ []);
@@ -58,15 +58,15 @@ module _ {text l left : List ℕ} {s t : State} {out held after : List ℕ} (f :
             f.cut more
             ∙ ap (λ (x : List (List ℕ)). f.finished ++ x) (lines_ended f.rest left more e ∙ ap (λ (d : List ℕ). whole ∷ lines_from [] (d ++ more)) (sym n))
             ∙ sym (append_assoc f.finished (whole ∷ []) (lines_from [] (next ++ more)));
-        serves = serves_more f.serves (answers_same after whole t a.answer u (held_means 32 after whole (omega arith) (gathers_holds g f.holds)) a.answers);
+        serves = serves_more f.serves (answers_same after whole t a.answer u (pushed_means 32 after whole (omega arith) (pushes_holds g f.holds)) a.answers);
         output = a.output ∙ ap (λ (x : List ℕ). x ++ printed a.answer) f.output ∙ sym (texts_more f.answers a.answer);
-        holds = holds_none 32;
+        holds = pushes_none 32;
       }
 
   -- the text ended before the line
-  pub so_far_all : Gathers 32 left held after None → PartAnswered text l s t out after
+  pub so_far_all : Pushes 32 left held after None → PartAnswered text l s t out after
   so_far_all g =
-      let e = gathers_open g in
+      let e = pushes_open g in
       record {
         rest = f.rest ++ up_to left;
         part = record {
@@ -76,7 +76,7 @@ module _ {text l left : List ℕ} {s t : State} {out held after : List ℕ} (f :
           serves = f.serves;
           output = f.output;
         };
-        holds = gathers_holds g f.holds;
+        holds = pushes_holds g f.holds;
       }
 
 -- ---- the input's end

@@ -19,7 +19,7 @@ use Rattle.command_lines.specs.declared.Answer.{Answer}
 use Rattle.command_lines.specs.declared.Answer.TheVariants as answer
 use Rattle.command_lines.specs.Lines.{meaning}
 use Rattle.command_lines.specs.Input.{lines, lines_from, unended}
-use Rattle.command_lines.proofs.Buffers.{holds_none}
+use Rattle.command_lines.proofs.Buffers.{pushes_none}
 use Rattle.sheetmark.specs.Performing.{IsBad, Starts, Calls, Asks, Performs}
 use Rattle.command_lines.specs.Answers.{answer_of}
 use Rattle.sheetmark.specs.Answering.{State, AnswersLine, Serves, none, line, texts, Kept, ReadAnswered}
@@ -227,7 +227,7 @@ pub record ReadSoFar (s t : State) (n : ℕ) (held : List ℕ) : Type 0 where
 
 pub read_none : (s : State) (held : List ℕ) → held ≡ [] → ReadSoFar s s 0 held
 read_none s held z =
-    record { parts = []; outs = []; rest = []; reading = program.none; long = omega arith; holds = rw z (holds_none 32) }
+    record { parts = []; outs = []; rest = []; reading = program.none; long = omega arith; holds = rw z (pushes_none 32) }
 
 module _ (s t u : State) (n : ℕ) (held text out held' : List ℕ) (f : ReadSoFar s t n held)
     (a : (l : List ℕ) → Kept held l → ReadAnswered text l t u out held') where

@@ -5,7 +5,7 @@ use Rattle.ledger.specs.Memory.{Memory}
 use Rattle.command_lines.specs.declared.Answer.{Answer}
 use Rattle.command_lines.specs.Lines.{meaning}
 use Rattle.command_lines.specs.Answers.{printed}
-use Rattle.command_lines.specs.Input.{unended, lines_from, Buffered}
+use Rattle.command_lines.specs.Input.{unended, lines_from, HoldsLine}
 use Rattle.ledger.specs.declared.Ledger.{Ledger}
 use Rattle.sheetmark.specs.Performing.{Performs, memory_of}
 
@@ -56,7 +56,7 @@ pub record End (l : List ℕ) (s t : State) (out : List ℕ) : Type 0 where
 -- ---- the same where the line buffer, of 32 bytes, holds the bytes of the line
 
 abbrev pub Kept : List ℕ → List ℕ → Type 0
-Kept held l = Buffered 32 held l
+Kept held l = HoldsLine 32 held l
 
 pub record PartAnswered (text l : List ℕ) (s t : State) (out held : List ℕ) : Type 0 where
   pub rest : List ℕ

@@ -138,7 +138,7 @@ fn answer_line(
 {
     let command = command_lines::parse(line);
     let done = perform(ledger, storage, journal, command);
-    command_lines::put_answer(out, done.answer);
+    command_lines::push_answer(out, done.answer);
     done.ledger
 }
 
@@ -162,7 +162,7 @@ fn answer_part(
     let mut current = ledger;
     let mut rest = text;
     // no iterator: each turn lends the line to the next gathering
-    while let Some(next) = command_lines::gather(rest, line) {
+    while let Some(next) = command_lines::push_line(rest, line) {
         current = answer_line(current, line.as_slice(), out, storage, journal);
         line.clear();
         rest = next;
