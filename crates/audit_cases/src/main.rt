@@ -7,8 +7,9 @@
 // stale; the population is 67.
 #![tactic(auto)]
 
+use command_lines::Answer;
 use range_bitset::{ALL, RangeBitset};
-use std::io;
+use std::io::{self, Write};
 
 const SOUND: [u64; 7] = [11, 5, 3, 2, 67, 1, 0];
 
@@ -100,12 +101,18 @@ const POPULATIONS: [Case; 4] = [
     ("the head's population one more", 68, &SOUND),
 ];
 
-// Prints what the audit says of a head and its storage. Not by `say`: a line here is a name with its answer.
-fn say_audit(rt: &impl Print, name: &str, head: RangeBitset, storage: &[u64]) -> io::Result<()> {
+// Prints what the audit says of a head and its storage: a name and yes or no, or the refusal, as `sheetmark` prints it.
+fn say_audit(
+    out: &mut impl Write,
+    name: &str,
+    head: RangeBitset,
+    storage: &[u64],
+) -> io::Result<()> {
+    write!(out, "{name}: ")?;
     match audit::audit(head, storage) {
-        Ok(true) => println!(rt; "{name}: yes"),
-        Ok(false) => println!(rt; "{name}: no"),
-        Err(refusal) => println!(rt; "{name}: refused {}", u8::from(refusal)),
+        Ok(true) => writeln!(out, "yes"),
+        Ok(false) => writeln!(out, "no"),
+        Err(refusal) => say::print(out, Answer::Refused(refusal.into())).1,
     }
 }
 
@@ -118,63 +125,64 @@ fn begun(words: u32, len: u32) -> RangeBitset {
     }
 }
 
-fn say_cases(rt: &impl Print, cases: &[Case]) -> io::Result<()> {
+fn say_cases(out: &mut impl Write, cases: &[Case]) -> io::Result<()> {
     for &(name, len, storage) in cases {
-        say_audit(rt, name, begun(2, len), storage)?;
+        say_audit(out, name, begun(2, len), storage)?;
     }
     Ok(())
 }
 
-fn flag_clear(rt: &impl Print) -> io::Result<()> {
+fn flag_clear(out: &mut impl Write) -> io::Result<()> {
     let fresh = RangeBitset {
         words: 2,
         ..RangeBitset::default()
     };
-    say_audit(rt, "flag clear, population 0", fresh, &SOUND)?;
+    say_audit(out, "flag clear, population 0", fresh, &SOUND)?;
     let one = RangeBitset { len: 1, ..fresh };
-    say_audit(rt, "flag clear, population 1", one, &SOUND)
+    say_audit(out, "flag clear, population 1", one, &SOUND)
 }
 
 // 128 words: block 0 is full, block 1 has position 4,096 alone.
-fn two_blocks(rt: &impl Print) -> io::Result<()> {
+fn two_blocks(out: &mut impl Write) -> io::Result<()> {
     let mut storage = [0; 136];
     storage[64] = 1;
     storage[129] = 1;
     storage[133] = 1;
     storage[134] = 3;
     storage[135] = 1;
-    say_audit(rt, "two blocks", begun(128, 4097), &storage)?;
+    say_audit(out, "two blocks", begun(128, 4097), &storage)?;
     storage[133] = 2;
     say_audit(
-        rt,
+        out,
         "two blocks, the second's population",
         begun(128, 4097),
         &storage,
     )?;
     storage[133] = 1;
     say_audit(
-        rt,
+        out,
         "two blocks, the head's population",
         begun(128, 4096),
         &storage,
     )
 }
 
-fn refusals(rt: &impl Print) -> io::Result<()> {
-    say_audit(rt, "3 words", begun(3, 67), &SOUND)?;
-    say_audit(rt, "population above the capacity", begun(2, 129), &SOUND)?;
-    say_audit(rt, "storage one short", begun(2, 67), &SOUND[..6])?;
-    say_audit(rt, "both, the head first", begun(3, 67), &[11])
+fn refusals(out: &mut impl Write) -> io::Result<()> {
+    say_audit(out, "3 words", begun(3, 67), &SOUND)?;
+    say_audit(out, "population above the capacity", begun(2, 129), &SOUND)?;
+    say_audit(out, "storage one short", begun(2, 67), &SOUND[..6])?;
+    say_audit(out, "both, the head first", begun(3, 67), &[11])
 }
 
 fn main(rt: HostRuntime) -> io::Result<()> {
-    say_cases(&rt, &STALE_NUMBERS)?;
-    say_cases(&rt, &TOP_MASKS)?;
-    say_cases(&rt, &BLOCK_MASKS)?;
-    say_cases(&rt, &STORED_WORDS)?;
-    say_cases(&rt, &SECOND_WORDS)?;
-    say_cases(&rt, &POPULATIONS)?;
-    flag_clear(&rt)?;
-    two_blocks(&rt)?;
-    refusals(&rt)
+    let out = &mut rt.stdout();
+    say_cases(out, &STALE_NUMBERS)?;
+    say_cases(out, &TOP_MASKS)?;
+    say_cases(out, &BLOCK_MASKS)?;
+    say_cases(out, &STORED_WORDS)?;
+    say_cases(out, &SECOND_WORDS)?;
+    say_cases(out, &POPULATIONS)?;
+    flag_clear(out)?;
+    two_blocks(out)?;
+    refusals(out)
 }
