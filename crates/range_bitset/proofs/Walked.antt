@@ -162,8 +162,8 @@ explicit_bit F N m i h = bit_of_and (bit_and N rest) m i ∙ by (dec_lt i 64)
         rw e (and-false (bit (bit_and N rest) i))
 
 -- those words and the full ones together are at most 64
-pub mixed_most : (F N m : ℕ) → m < 2 ^ 64 → ones (bit_and F m) * 64 + ones (explicit_words F N m) * 64 ≤ 4096
-mixed_most F N m h =
+pub masked_most : (F N m : ℕ) → m < 2 ^ 64 → ones (bit_and F m) * 64 + ones (explicit_words F N m) * 64 ≤ 4096
+masked_most F N m h =
     let E = explicit_words F N m in
     let e : E < 2 ^ 64 = lt_of_le_of_lt (and_le_r (bit_and N ((2 ^ 64 - 1) - bit_and F m)) m) h in
     let sum =
@@ -184,6 +184,10 @@ mixed_most F N m h =
     cond_most false false = omega arith
 
 module _ (W : ℕ) (st : List ℕ) (b m : ℕ) where
+  pub mixed_most : ((k : ℕ) → get_or st k 0 < 2 ^ 64) → mixed_count W st b m ≤ 4096
+  unfolding mixed_count
+  mixed_most known = ones_most m (λ j. mixed_read W st (64 * b + j)) (λ j. mixed_lt W st known (64 * b + j))
+
   -- by the words marked full and those looked at
   pub mixed_marked : (F E : ℕ) → F < 2 ^ 64 → ((i : ℕ) → bit F i ≡ (bit m i && bit (at W st (full b)) i))
       → ((i : ℕ) → bit E i ≡ ((bit m i && not (bit (at W st (full b)) i)) && bit (at W st (nonzero b)) i))
@@ -194,7 +198,7 @@ module _ (W : ℕ) (st : List ℕ) (b m : ℕ) where
       (λ j l. ap ones (mixed_row W st b j l) ∙ ones_cond (bit (at W st (full b)) j) (bit (at W st (nonzero b)) j) (at W st (word (64 * b + j))))
 
 -- block b by its data words l and a mask m of them
-module _ (W : ℕ) (st : List ℕ) (room : Room W st) (b m : ℕ) (there : b < blocks W) (h : m < 2 ^ words_of W b) (l : List ℕ)
+module _ (W : ℕ) (st : List ℕ) (b m : ℕ) (h : m < 2 ^ words_of W b) (l : List ℕ)
     (is : l ≡ slice_range st (64 * b) (64 * b + words_of W b)) where
   data_at : (j : ℕ) → j < words_of W b → get_or l j 0 ≡ get_or st (64 * b + j) 0
   data_at j u = ap (λ (x : List ℕ). get_or x j 0) is ∙ part_at st (64 * b) (words_of W b) j u

@@ -20,11 +20,19 @@ pub fields_read : (bytes : List ℕ) (words count : ℕ) → numbers (words ∷ 
 unfolding header_reply
 fields_read bytes words count e = grind (arith, nat_tests, headed_yes bytes)
 
+pub header_refused : (bytes : List ℕ) → refused_with 7 [] ≡ header_reply bytes → Headed bytes → ⊥
+unfolding header_reply
+header_refused bytes e h = grind (arith, nat_tests, yes_headed bytes h)
+
 -- ---- the length
 
 pub length_whole : (bytes : List ℕ) → numbers [] ≡ length_reply bytes → Whole bytes
 unfolding length_reply
 length_whole bytes e = grind (arith, nat_tests)
+
+pub length_refused : (bytes : List ℕ) → refused_with 7 [] ≡ length_reply bytes → Whole bytes → ⊥
+unfolding length_reply
+length_refused bytes e h = grind (arith, nat_tests, yes_whole bytes h)
 
 -- ---- the run rule
 

@@ -36,8 +36,15 @@ module _ (bytes : List ℕ) (i low start end : ℕ) (found : numbers (start ∷ 
   unfolding first_bad
   reached_bad e = let r = rw rest at reached in grind (arith, nat_tests)
 
-pub reached_end : (bytes : List ℕ) (i low : ℕ) → numbers [] ≡ run_reply bytes i → Reached bytes i low → held_count bytes ≤ first_bad_held bytes
-reached_end bytes i low none p = omega (arith, found_none bytes i none)
+pub reached_end : (bytes : List ℕ) (i low : ℕ) → held_count bytes ≤ i → Reached bytes i low → first_bad_held bytes ≡ i
+unfolding runs_after first_bad
+reached_end bytes i low h p = let q : held_count bytes - i ≡ 0 = omega arith in let r = rw q at p in omega arith
+
+-- a step that gives no run
+pub reached_none : (bytes : List ℕ) (i low : ℕ) → numbers [] ≡ run_reply bytes i → Reached bytes i low → held_count bytes ≤ first_bad_held bytes
+reached_none bytes i low none p =
+    let h = found_none bytes i none in
+    omega (arith, reached_end bytes i low h p)
 
 -- what the walk is proved by
-pub ruleset turns = (moved_on, reached_start, reached_next, reached_bad, reached_end)
+pub ruleset turns = (moved_on, reached_start, reached_next, reached_bad, reached_none)
