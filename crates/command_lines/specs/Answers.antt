@@ -56,9 +56,9 @@ used_after out used a = cond (has_room out used) (used + length (printed a)) use
 -- ---- the same where the output is an `ArrayVec` for `size` bytes that holds `held`
 
 -- it has room for any answer's line
-abbrev pub is_free : ℕ → List ℕ → Bool
-is_free size held = leb (length held + 12) size
+abbrev pub vec_has_room : ℕ → List ℕ → Bool
+vec_has_room size held = leb (length held + 12) size
 
 -- what it holds once the answer is put there. Where there is no room, nothing is put
 abbrev pub pushed : ℕ → List ℕ → Answer → List ℕ
-pushed size held a = cond (is_free size held) (held ++ printed a) held
+pushed size held a = cond (vec_has_room size held) (held ++ printed a) held

@@ -46,8 +46,7 @@ impl Line {
     // One byte more: a space starts the next number; any other byte is the letter, or a digit of the present number.
     fn take(&mut self, byte: u8) {
         match (byte, self.field) {
-            (b' ', 3) => {}
-            (b' ', field) => self.field = field.wrapping_add(1),
+            (b' ', field) => self.field = field.saturating_add(1).min(3),
             (letter, 0) => self.letter = letter,
             (digit, 1) => self.first = grown(self.first, digit),
             (digit, 2) => self.second = grown(self.second, digit),
